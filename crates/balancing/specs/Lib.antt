@@ -1,0 +1,3 @@
+pub mod Cashouts
+pub mod Options
+pub mod Rules

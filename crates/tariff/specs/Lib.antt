@@ -1,0 +1,4 @@
+pub mod Bills
+pub mod Faults
+pub mod Money
+pub mod Months
