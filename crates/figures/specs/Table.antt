@@ -5,6 +5,7 @@ use lib.IntN.{ℤ, pos, negsuc, negℤ}
 use Rattle.tariff.specs.Bills.{amount-due}
 use Rattle.tariff.specs.Money.{nearest}
 use Rattle.balancing.specs.Options.{monthly, self-balancing}
+use Rattle.cards.specs.Index.{dollars}
 use Rattle.tariff.specs.declared.bill.BillKind.the-variants.{TierOne}
 use Rattle.balancing.specs.declared.option.FlowOrder.the-variants.{Absent, InEffect}
 use Rattle.balancing.specs.declared.option.Parts.{Parts}
@@ -37,8 +38,13 @@ pub record Self-Balancing-figures : Type 0 where
 pub record Money-figures : Type 0 where
   pub half-a-cent-goes-away-from-zero : nearest (amount-due TierOne (pos 3) 1255000) ≡ negℤ (pos 377)
 
--- the table: eleven figures
+-- Citygate's price in whole dollars: a ten-thousandth above 4 dollars makes 5
+pub record Card-figures : Type 0 where
+  pub citygate-is-rounded-up : (dollars 40001 ≡ 5) × (dollars 40000 ≡ 4)
+
+-- the table: twelve figures
 pub record Worked-figures : Type 0 where
   pub monthly-balancing : Monthly-figures
   pub self-balancing-days : Self-Balancing-figures
   pub money : Money-figures
+  pub cards : Card-figures

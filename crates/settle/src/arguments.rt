@@ -30,7 +30,10 @@ const TIER_TWO_UNDER: &str = "--tier-two-under";
 
 const FORMAT: &str = "--format";
 
-const FLAGS: [&str; 10] = [
+const PRICES: &str = "--prices";
+
+/// The arguments of the task `quote`.
+const QUOTE_FLAGS: [&str; 10] = [
     "--option",
     "--tolerance",
     "--usage",
@@ -43,6 +46,9 @@ const FLAGS: [&str; 10] = [
     "--format",
 ];
 
+/// The arguments of the task `prices`.
+const PRICES_FLAGS: [&str; 2] = ["--prices", "--format"];
+
 /// The largest quantity that the book takes, in Dth.
 const MOST: u32 = 100_000_000;
 
@@ -51,8 +57,9 @@ const MOST_PRICE: u64 = 1_500_000_000;
 
 /// What the program is asked to do.
 #[derive(Clone, Copy)]
-pub(crate) enum Command {
+pub(crate) enum Command<'a> {
     Quote(Request),
+    Prices(&'a str, Layout),
     Help,
     Version,
 }
@@ -89,8 +96,8 @@ pub(crate) impl fmt::Display for Complaint<'_> as ComplaintDisplay {
     }
 }
 
-fn is_flag(word: &str) -> bool {
-    for flag in &FLAGS {
+fn is_flag(flags: &[&str], word: &str) -> bool {
+    for flag in flags {
         if *flag == word {
             return true;
         }
@@ -109,10 +116,10 @@ fn stands_before(words: &[String], i: usize, word: &str) -> bool {
 }
 
 /// The words are flags, each known and given once, with a value after it.
-fn check_flags(words: &[String]) -> Result<(), Complaint<'_>> {
+fn check_flags<'a>(words: &'a [String], flags: &[&str]) -> Result<(), Complaint<'a>> {
     for (i, word) in words.iter().enumerate() {
         let flag = word.as_str();
-        if i % 2 == 0 && !is_flag(flag) {
+        if i % 2 == 0 && !is_flag(flags, flag) {
             return Err(Complaint::UnknownArgument(flag));
         }
         if i % 2 == 0 && stands_before(words, i / 2, flag) {
@@ -243,7 +250,7 @@ fn read_prices(words: &[String]) -> Result<TierPrices, Complaint<'_>> {
 }
 
 fn read_request(words: &[String]) -> Result<Request, Complaint<'_>> {
-    check_flags(words)?;
+    check_flags(words, &QUOTE_FLAGS)?;
     let choice = read_choice(words)?;
     let statement = read_statement(words)?;
     let prices = read_prices(words)?;
@@ -254,6 +261,13 @@ fn read_request(words: &[String]) -> Result<Request, Complaint<'_>> {
         prices,
         layout,
     })
+}
+
+fn read_prices_task(words: &[String]) -> Result<Command<'_>, Complaint<'_>> {
+    check_flags(words, &PRICES_FLAGS)?;
+    let file = required(words, PRICES)?;
+    let layout = read_layout(words)?;
+    Ok(Command::Prices(file, layout))
 }
 
 /// Whether help is asked for, anywhere on the line.
@@ -267,7 +281,7 @@ fn asks_for_help(words: &[String]) -> bool {
 }
 
 /// What the words after the program's name ask for. With none, or with the task alone, the sample is quoted.
-pub(crate) fn read_command(words: &[String]) -> Result<Command, Complaint<'_>> {
+pub(crate) fn read_command(words: &[String]) -> Result<Command<'_>, Complaint<'_>> {
     if asks_for_help(words) {
         return Ok(Command::Help);
     }
@@ -280,6 +294,9 @@ pub(crate) fn read_command(words: &[String]) -> Result<Command, Complaint<'_>> {
     }
     if task == "--version" {
         return Ok(Command::Version);
+    }
+    if task == "prices" {
+        return read_prices_task(&words[1..]);
     }
     if task != "quote" {
         return Err(Complaint::UnknownCommand(task));

@@ -6,6 +6,7 @@ const HELP: &str = "settle: gas imbalances under Schedule G-BAL, from the comman
 
   settle                  quote a built-in sample
   settle quote ARGUMENTS  split a statement's imbalance and price its cashout
+  settle prices ARGUMENTS make each month's price card from a price file
   settle --help           this text
   settle --version        the version
 
@@ -21,8 +22,12 @@ The arguments of a quote, each with a value after it, in any order:
   --tier-two-under    price of under-delivery in Tier II
   --format            table (the default) or csv
 
+The arguments of prices:
+  --prices            the price file: rows of month,name,day,price under that header
+  --format            table (the default, with the working of each card) or csv
+
 Quantities go up to 100000000, prices up to 1500 dollars with at most six decimals.
-What is wrong with the arguments is said in one line on standard error; the status is then 1.
+What is wrong with the arguments, or with a row of a file, is said in one line on standard error; the status is then 1.
 
 Example:
   settle quote --option monthly --usage 1000 --monthly-quantity 1200 --imbalance -101 \\
@@ -37,6 +42,6 @@ pub(crate) fn print_version(rt: &LibcRuntime) -> io::Result<()> {
     let figures = worked_figures();
     println!(
         rt,
-        "settle 0.1.0, gas imbalances under Schedule G-BAL ({figures} worked figures proved)"
+        "settle 0.2.0, gas imbalances under Schedule G-BAL ({figures} worked figures proved)"
     )
 }

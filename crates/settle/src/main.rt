@@ -1,6 +1,10 @@
 // The program `settle`: what the balancing book does, from the command line.
 mod arguments;
 mod help;
+mod month_cards;
+mod price_file;
+mod prices;
+mod prices_report;
 mod report;
 mod request;
 
@@ -30,6 +34,7 @@ fn main(rt: LibcRuntime) -> Result<(), AnyError> {
     }
     match arguments::read_command(words.as_slice()) {
         Ok(Command::Quote(request)) => run_quote(&rt, &request),
+        Ok(Command::Prices(file, layout)) => prices::run_prices(&rt, file, layout),
         Ok(Command::Help) => {
             help::print_help(&rt)?;
             Ok(())

@@ -18,4 +18,5 @@ returns c = record {
     past-one-percent-accumulated = λ r u. refl;
   };
   money = record { half-a-cent-goes-away-from-zero = refl };
+  cards = record { citygate-is-rounded-up = (refl, refl) };
 }

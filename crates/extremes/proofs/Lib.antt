@@ -1,0 +1,6 @@
+mod Pass
+mod Five
+mod Shuffles
+mod OneOrder
+mod Known
+mod Lead
