@@ -3,6 +3,8 @@ ghost use mathlib.Core.Path.{_≡_};
 ghost use Rattle.figures.specs.Table.{Worked-figures};
 
 #[cfg(test)]
+mod card_tests;
+#[cfg(test)]
 mod tests;
 
 fn table()

@@ -38,7 +38,7 @@ fn five<O: Order>(doubles: &[u32]) -> u64
 {
     match sum_of_five_first::<O>(doubles) {
         Some(sum) => sum,
-        None => 0,
+        None => unreachable(),
     }
 }
 
@@ -51,7 +51,7 @@ fn one<O: Order>(doubles: &[u32]) -> u32
 {
     match first::<O>(doubles) {
         Some(double) => double,
-        None => 0,
+        None => unreachable(),
     }
 }
 

@@ -6,8 +6,8 @@ use lib.ListN.{length}
 use Rattle.std.proofs.shelf.Tests.{ne-eqb}
 use Rattle.cards.proofs.index.points.one.Needs as need
 
-pub returns-in-Some : need.returns-in-Some
-returns-in-Some g c =
+pub returns : need.returns
+returns g c =
     let some : eqb (length (c .args .doubles .now)) 0 ≡ false = ne-eqb (length (c .args .doubles .now)) 0 (λ e. omega (arith, c .pre .many)) in
     let is = rw some at (c .in-Some .ensures tt .value) in
     record { value = cc; bound = c .in-Some .ensures tt .bound 20000000 (c .pre .limit) }
