@@ -17,6 +17,7 @@ use Rattle.balancing.specs.declared.option.Parts.{Parts}
 abbrev pub tier-price : ℤ → ℕ → ℕ → ℕ
 tier-price q over under = cond (ltZ q (pos 0)) under over
 
+-- whether a quantity is 0
 abbrev pub no-gas : ℤ → Bool
 no-gas (pos zero) = true
 no-gas (pos (suc n)) = false

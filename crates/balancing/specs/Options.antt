@@ -54,6 +54,7 @@ daily-excess r u InEffect = 0
 abbrev pub accumulated-excess : ℕ → ℤ → ℕ
 accumulated-excess d z = natAbs z - d / 100
 
+-- both excesses of a day
 abbrev pub self-balancing-excess : ℕ → ℕ → FlowOrder → ℕ → ℤ → Excess
 self-balancing-excess r u f d z = record { daily = daily-excess r u f; accumulated = accumulated-excess d z }
 

@@ -19,5 +19,6 @@ abbrev pub fixed-card-of : Option Month → TierPrices → Answer Terms
 fixed-card-of None p = refused 1 card-layer no-account
 fixed-card-of (Some m) p = cond (past-limit p) (refused 10 card-layer no-account) (done (fixed-terms m p))
 
+-- the card of the month that a year and a number name
 abbrev pub fixed-card : ℕ → ℕ → TierPrices → Answer Terms
 fixed-card year number p = fixed-card-of (named year number) p

@@ -17,7 +17,7 @@ use Rattle.cards.specs.declared.index.published.Published.{Published}
 use Rattle.cards.specs.declared.index.working.Point.{Point}
 use Rattle.cards.specs.declared.index.working.Working.{Working}
 
--- a day's double is the sum of both services' prices; these are the doubles of day 1 to day n
+-- a day's double adds up what both services have for the day; these are the doubles of day 1 to day n
 abbrev pub doubled : (ℕ → ℕ) → (ℕ → ℕ) → ℕ → List ℕ
 doubled p q zero = []
 doubled p q (suc n) = doubled p q n ++ ((p (suc n) + q (suc n)) ∷ [])
@@ -63,7 +63,7 @@ highest p (suc n) = max (highest p n) (p (suc n))
 abbrev pub dollars : ℕ → ℕ
 dollars p = (p + 9999) / 10000
 
--- what a clerk checks by hand
+-- what a clerk checks by hand: both points, the weighted low and high, Citygate's highest price and its whole dollars
 abbrev pub working-of : Published → Working
 working-of x = record {
   malin = point-of (x .«malin_a») (x .«malin_b»);
@@ -75,7 +75,7 @@ working-of x = record {
 }
 
 -- Tier I: 75 percent of the lower of bid-week index and weighted low, 125 percent of the higher of bid-week index and weighted high.
--- Tier II: 50 percent of the smallest daily price at either point, 150 percent of the largest; a double is twice a daily price.
+-- Tier II: 50 percent of the smallest daily average of both services at either point, 150 percent of the largest; a double is twice that average.
 abbrev pub tiers-of : ℕ → Working → TierPrices
 tiers-of bid w = record {
   «one_over» = 75 * min bid (w .«weighted_low»);
@@ -105,6 +105,7 @@ one-month x =
 abbrev pub past-limits : Published → Bool
 past-limits x = ltb 10000000 (x .«bid_week») || ltb 10000000 (x .«citygate_index») || ltb 100000000 (x .«malin_supply») || ltb 100000000 (x .«topock_supply»)
 
+-- both supply amounts are 0
 abbrev pub no-supply : Published → Bool
 no-supply x = eqb (x .«malin_supply») 0 && eqb (x .«topock_supply») 0
 

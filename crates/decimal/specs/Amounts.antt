@@ -41,9 +41,11 @@ abbrev pub point-at : List ℕ → ℕ
 point-at [] = 0
 point-at (b ∷ bs) = cond (eqb b 46) 0 (point-at bs + 1)
 
+-- whether there is a point
 abbrev pub has-point : List ℕ → Bool
 has-point bs = ltb (point-at bs) (length bs)
 
+-- what stands before the point, and all of it where there is none
 abbrev pub before-point : List ℕ → List ℕ
 before-point bs = take (point-at bs) bs
 

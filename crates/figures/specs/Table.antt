@@ -2,11 +2,10 @@
 use Prim.Native.Nat.{ℕ}
 use mathlib.Core.Path.{_≡_}
 use lib.IntN.{ℤ, pos, negsuc, negℤ}
-use Rattle.tariff.specs.Bills.{amount-due}
-use Rattle.tariff.specs.Money.{nearest}
+use Rattle.balancing.specs.Cashouts.{tier-one-line, cents-of}
 use Rattle.balancing.specs.Options.{monthly, self-balancing}
 use Rattle.cards.specs.Index.{dollars}
-use Rattle.tariff.specs.declared.bill.BillKind.the-variants.{TierOne}
+use Rattle.balancing.specs.declared.option.FlowOrder.{FlowOrder}
 use Rattle.balancing.specs.declared.option.FlowOrder.the-variants.{Absent, InEffect}
 use Rattle.balancing.specs.declared.option.Parts.{Parts}
 
@@ -32,11 +31,12 @@ pub record Self-Balancing-figures : Type 0 where
   pub past-one-percent-is-tier-two : (u : ℕ) → self-balancing .split u 1200 (under 13) ≡ parts (under 12) (pos 0) (under 1)
   pub ten-percent-of-a-day-is-allowed : (d : ℕ) (z : ℤ) → self-balancing .excess 1100 1000 Absent d z .daily ≡ 0
   pub past-ten-percent-of-a-day : (d : ℕ) (z : ℤ) → (self-balancing .excess 1101 1000 Absent d z .daily ≡ 1) × (self-balancing .excess 1101 1000 InEffect d z .daily ≡ 0)
-  pub past-one-percent-accumulated : (r u : ℕ) → self-balancing .excess r u Absent 1200 (pos 15) .accumulated ≡ 3
+  pub past-one-percent-accumulated : (r u : ℕ) (f : FlowOrder) → self-balancing .excess r u f 1200 (pos 15) .accumulated ≡ 3
 
--- three Dth of Tier I, delivered over the usage, at 1.255 dollars come to 376.5 cents, paid to the agent
+-- three Dth of Tier I, delivered over the usage, at 1.255 dollars come to 376.5 cents, paid to the agent, whatever the other
+-- prices and parts are
 pub record Money-figures : Type 0 where
-  pub half-a-cent-goes-away-from-zero : nearest (amount-due TierOne (pos 3) 1255000) ≡ negℤ (pos 377)
+  pub half-a-cent-goes-away-from-zero : (u v w : ℕ) (k t : ℤ) → cents-of (tier-one-line (record { «one_over» = 1255000; «one_under» = u; «two_over» = v; «two_under» = w }) (parts k (pos 3) t)) ≡ negℤ (pos 377)
 
 -- Citygate's price in whole dollars: a ten-thousandth above 4 dollars makes 5
 pub record Card-figures : Type 0 where

@@ -53,7 +53,7 @@ abbrev pub latest : (ℕ → Option ℕ) → ℕ → Option ℕ
 latest entries zero = None
 latest entries (suc k) = if-none (entries (suc k)) (latest entries k)
 
--- the price that stands for a day of the series, or else the price before the month
+-- the price entered for a published day, or the price before the month where there is none
 abbrev pub price-at : PriceSeries → Option ℕ → ℕ
 price-at s (Some day) = getD (s .prices) (day - 1) 0
 price-at s None = s .before

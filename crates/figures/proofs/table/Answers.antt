@@ -15,8 +15,8 @@ returns c = record {
     past-one-percent-is-tier-two = λ u. refl;
     ten-percent-of-a-day-is-allowed = λ d z. refl;
     past-ten-percent-of-a-day = λ d z. (refl, refl);
-    past-one-percent-accumulated = λ r u. refl;
+    past-one-percent-accumulated = λ r u f. refl;
   };
-  money = record { half-a-cent-goes-away-from-zero = refl };
+  money = record { half-a-cent-goes-away-from-zero = λ u v w k t. refl };
   cards = record { citygate-is-rounded-up = (refl, refl) };
 }
