@@ -1,5 +1,6 @@
 // The program `settle`: what the balancing book does, from the command line.
 mod arguments;
+mod dollars;
 mod help;
 mod month_cards;
 mod price_file;

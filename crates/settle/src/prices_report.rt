@@ -1,4 +1,6 @@
 // Prints the cards of a price file, each with its working.
+use crate::dollars::Dollars;
+use crate::dollars::DollarsDisplay;
 use crate::month_cards::Made;
 use crate::request::Layout;
 use balancing::TierPrices;
@@ -8,37 +10,10 @@ use cards::IndexCard;
 use cards::IndexCardCard;
 use cards::Published;
 use cards::Terms;
-use std::fmt;
 use std::io;
 use tariff::FaultDisplay;
 use tariff::Month;
 use tariff::MonthDisplay;
-
-/// An amount in units of its last decimal, printed in dollars.
-#[derive(Clone, Copy)]
-pub(crate) enum Dollars {
-    /// In ten-thousandths.
-    Published(u64),
-    /// In millionths.
-    OnCard(u32),
-}
-
-pub(crate) impl fmt::Display for Dollars as DollarsDisplay {
-    fn fmt<W: fmt::Write>(&self, f: &mut fmt::Formatter<W>) -> fmt::Result {
-        match self {
-            Dollars::Published(n) => {
-                let whole = *n / 10_000;
-                let rest = *n % 10_000;
-                write!(f, "{whole}.{rest:04}")
-            }
-            Dollars::OnCard(n) => {
-                let whole = *n / 1_000_000;
-                let rest = *n % 1_000_000;
-                write!(f, "{whole}.{rest:06}")
-            }
-        }
-    }
-}
 
 /// A line of a card: what it is, and its dollars.
 fn print_item(rt: &LibcRuntime, name: &str, dollars: Dollars) -> io::Result<()> {

@@ -1,25 +1,14 @@
 // Prints a quote.
+use crate::dollars::Dollars;
+use crate::dollars::DollarsDisplay;
 use crate::request::Choice;
 use crate::request::Layout;
 use crate::request::Request;
 use quote::Quote;
-use std::fmt;
 use std::io;
 use tariff::Cents;
 use tariff::CentsDisplay;
 use tariff::Charge;
-
-/// A card price, printed in dollars with six decimals.
-#[derive(Clone, Copy)]
-struct Price(u32);
-
-impl fmt::Display for Price as PriceDisplay {
-    fn fmt<W: fmt::Write>(&self, f: &mut fmt::Formatter<W>) -> fmt::Result {
-        let dollars = self.0 / 1_000_000;
-        let rest = self.0 % 1_000_000;
-        write!(f, "{dollars}.{rest:06}")
-    }
-}
 
 pub(crate) fn print_quote(rt: &LibcRuntime, request: &Request, quote: &Quote) -> io::Result<()> {
     match request.layout {
@@ -80,7 +69,7 @@ fn print_line(rt: &LibcRuntime, name: &str, line: &Option<Charge>) -> io::Result
     let kind = charge.kind.number();
     let quantity = charge.quantity;
     let side = side(quantity);
-    let price = format!(rt.alloc(), "{}", Price(charge.price))?;
+    let price = format!(rt.alloc(), "{}", Dollars::OnCard(charge.price))?;
     let dollars = format!(rt.alloc(), "{}", charge.cents)?;
     println!(
         rt,
@@ -125,7 +114,7 @@ fn print_csv_line(
         return println!(rt, "{name},,{quantity},,");
     };
     let kind = charge.kind.number();
-    let price = Price(charge.price);
+    let price = Dollars::OnCard(charge.price);
     let cents = charge.cents;
     println!(rt, "{name},{kind},{quantity},{price},{cents}")
 }
