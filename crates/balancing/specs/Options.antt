@@ -1,5 +1,5 @@
 -- The two options of Schedule G-BAL, written outright.
-use Rattle.std.specs.Prelude.{ℕ, ◌-◌, ◌*◌, ◌/◌, Bool, true, false, cond, ◌&&◌, ℤ, pos, ◌-ℤ◌, nat_le, unsigned_abs}
+use Rattle.std.specs.Prelude.{ℕ, ◌-◌, ◌*◌, ◌/◌, true, false, cond, ◌&&◌, ℤ, pos, ◌-ℤ◌, nat_le, unsigned_abs}
 use Rattle.tariff.specs.Faults.{Answer, done, refused, book_layer, no_account}
 use Rattle.balancing.specs.Rules.{Rules, apart, held_within}
 use Rattle.balancing.specs.declared.option.Parts.{Parts}

@@ -1,4 +1,6 @@
 // Balancing options under Schedule G-BAL, and the cashout of what they do not keep.
+#![tactic(auto)]
+
 mod cashout;
 mod monthly;
 mod option;

@@ -3,9 +3,7 @@ ghost use Rattle.std.specs.Prelude.{◌≡◌, ◌*◌, ◌/◌, ◌≤◌, fals
 ghost use Rattle.balancing.specs.Rules.{Rules};
 ghost use Rattle.balancing.specs.Options.{monthly, monthly_split, split_in_bands, no_excess, percentage, tolerance_answer};
 ghost use Rattle.tariff.specs.Faults.{answer};
-ghost use Rattle.std.proofs.Common.{arith};
-ghost use Rattle.std.proofs.lemmas.Int.{ints};
-ghost use Rattle.balancing.specs.Splits.{part_within, part_beyond, part_between, tolerated};
+ghost use Rattle.balancing.specs.Splits.{monthly_laws};
 
 use crate::option::{BalancingOption, Excess, FlowOrder, Parts, held_within, rest};
 use tariff::{Fault, Layer, NO_ACCOUNT, Row};
@@ -96,15 +94,7 @@ impl BalancingOption for Monthly {
 
     ghost rules = { λ m. monthly (percentage m.tolerance) };
 
-    ghost sound = { λ x.
-        record {
-          parts_add_up = λ u d s. omega (arith, ints);
-          kept_is_part = λ u d s. part_within _ s;
-          tier_one_is_part = λ u d s. part_between _ _ s (tolerated x.tolerance u);
-          tier_two_is_part = λ u d s. part_beyond _ s;
-          daily_at_most = λ r u f d z. omega arith;
-          accumulated_at_most = λ r u f d z. omega arith;
-        } };
+    ghost sound = { λ x. monthly_laws x.tolerance };
 
     fn letter(&self) -> char
         ensures { result ≡ 77 }

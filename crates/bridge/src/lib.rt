@@ -1,5 +1,7 @@
 // The rules behind a C interface, so that code in another language can be held against them.
 // Every number of its type may be passed: what is no month, no tolerance, no kind or no amount has an answer of its own.
+#![tactic(auto)]
+
 ghost use Rattle.std.specs.Prelude.{◌≡◌, ◌^◌, ◌<◌, IfSome, unsigned_abs};
 ghost use Rattle.tariff.specs.Bills.{charge, kind_number};
 ghost use Rattle.tariff.specs.Months.{named};

@@ -1,4 +1,6 @@
 // Price cards: what a month's gas costs, for cashouts, noncompliance and the credit.
+#![tactic(auto)]
+
 mod card;
 mod fixed;
 mod index;

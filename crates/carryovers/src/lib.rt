@@ -1,4 +1,6 @@
 // Worked figures of carryovers: a table that is proved.
+#![tactic(auto)]
+
 ghost use Rattle.std.specs.Prelude.{◌≡◌};
 ghost use Rattle.carryovers.specs.Table.{CarryoverFigures};
 

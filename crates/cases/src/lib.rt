@@ -1,4 +1,6 @@
 // Examples of the book: scripts of calls, each with the answer that the rules give.
+#![tactic(auto)]
+
 #[cfg(test)]
 mod amounts;
 #[cfg(test)]

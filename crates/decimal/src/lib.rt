@@ -1,4 +1,6 @@
 // Amounts as a clerk writes them: digits, and perhaps a point and decimals.
+#![tactic(auto)]
+
 ghost use Rattle.std.specs.Prelude.{◌≡◌, ◌*◌, ◌^◌, ◌<◌, ◌≤◌, [], length, IfSome};
 ghost use Rattle.decimal.specs.Amounts.{places, provided, is_number, number, point_at, after_point, amount};
 

@@ -1,4 +1,6 @@
 // What pages make due at a card's prices, exactly: from pages, options and cards, never from a bill line.
+#![tactic(auto)]
+
 ghost use Rattle.std.specs.Prelude.{◌≡◌, ◌+◌, ◌^◌, ◌≤◌, pos, ◌+ℤ◌, unsigned_abs};
 ghost use Rattle.tariff.specs.Bills.{amount_due};
 ghost use Rattle.tariff.specs.declared.bill.BillKind.TheVariants.{DailyExcess, AccumulatedExcess, Credit};

@@ -1,5 +1,7 @@
 // The numbers of a list that come first under an order, and the sum of the first five: one text for the smallest and
 // the largest.
+#![tactic(auto)]
+
 ghost use Rattle.std.specs.Prelude.{◌≡◌, ℕ, ◌+◌, ◌*◌, ◌<◌, ◌≤◌, min, Bool, true, false, List, [], ◌∷◌, ◌++◌, length, take, if◌then◌else◌, Some, None, sum, MatchOption, nat_eq, nat_le, nat_lt, slice_index};
 ghost use Rattle.std.specs.List.{AllByRecursion as All};
 ghost use Rattle.extremes.specs.Arranged.{Ascending, Foremost, InOrder, insert, sorted};

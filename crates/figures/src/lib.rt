@@ -1,4 +1,6 @@
 // Worked figures of the tariff: a table that is proved, and examples that are run.
+#![tactic(auto)]
+
 ghost use Rattle.std.specs.Prelude.{◌≡◌};
 ghost use Rattle.figures.specs.Table.{WorkedFigures};
 

@@ -1,4 +1,6 @@
 // The table of pages, the offers, and the ten calls on them.
+#![tactic(auto)]
+
 mod accepting;
 mod accounts;
 mod amounts;

@@ -1,4 +1,6 @@
 // One account's page, and what each call does to it.
+#![tactic(auto)]
+
 mod adjusting;
 mod billing;
 mod closing;

@@ -1,4 +1,6 @@
 // What an agent is quoted before its imbalance is traded or cashed out.
+#![tactic(auto)]
+
 ghost use Rattle.std.specs.Prelude.{◌≡◌};
 ghost use Rattle.quote.specs.Quotes.{quoted, Whole, HalfACentALine};
 

@@ -1,5 +1,7 @@
 // The records of the book: what accounts are, the calls that are handed in and their refusals, and the bill lines and
 // trade confirmations that are written.
+#![tactic(auto)]
+
 mod account;
 mod call;
 mod component;

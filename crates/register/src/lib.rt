@@ -1,4 +1,6 @@
 // A register: records in memory that the caller lends.
+#![tactic(auto)]
+
 ghost use Rattle.std.specs.Prelude.{◌≡◌, ◌<◌, [], ◌∷◌, length, drop, if◌then◌else◌, Ok, Err, nat_lt};
 ghost use Rattle.std.specs.List.{slice_get};
 ghost use Rattle.register.specs.Registers.{Wrote, free, records};

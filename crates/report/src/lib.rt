@@ -1,4 +1,6 @@
 // What became of calls on a book, in words and tables.
+#![tactic(auto)]
+
 mod answer;
 mod bills;
 mod blank;

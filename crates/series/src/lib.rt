@@ -1,4 +1,6 @@
 // The published gas prices of one month, day by day.
+#![tactic(auto)]
+
 ghost use Rattle.std.specs.Prelude.{◌≡◌, ℕ, ◌^◌, ◌<◌, ◌≤◌, slice_index};
 ghost use Rattle.tariff.specs.Months.{days_in};
 

@@ -1,4 +1,6 @@
 // The program `settle`: what the balancing book does, from the command line.
+#![tactic(auto)]
+
 mod arguments;
 mod dollars;
 mod help;

@@ -1,4 +1,6 @@
 // A built-in story: two months of a small book, from the opening of its accounts to the second closing.
+#![tactic(auto)]
+
 mod days;
 mod desk;
 mod ending;

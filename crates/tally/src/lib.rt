@@ -1,4 +1,6 @@
 // The tally: gas by account, counted from performed calls and their bill lines alone, without a page of the book.
+#![tactic(auto)]
+
 mod gas;
 mod numbers;
 mod offers;

@@ -1,5 +1,5 @@
 -- The numbers of refusals, and what a call answers.
-use Rattle.std.specs.Prelude.{ℕ, Bool, cond, Ok, Err, Result}
+use Rattle.std.specs.Prelude.{ℕ, Ok, Err, Result}
 use Rattle.tariff.specs.declared.fault.Row.{Row}
 use Rattle.tariff.specs.declared.fault.Row.TheVariants.{Field, NotOpen, UsedBefore, WrongKind, NoOffer, OtherMonth, WrongDay, WrongState, LargeCarryover, PastLimit, NoOfferPlace, NoRegisterPlace, BadHeader, BadRecord, NoSupply}
 use Rattle.tariff.specs.declared.fault.Layer.{Layer}

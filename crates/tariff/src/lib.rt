@@ -1,4 +1,6 @@
 // The tariff's own arithmetic: months, refusals, and money.
+#![tactic(auto)]
+
 mod bill;
 mod fault;
 mod money;

@@ -5,8 +5,8 @@ use Rattle.tariff.specs.Money.{exact}
 use Rattle.tariff.proofs.Products.{exact_small, abs_fits, fits_small, cast_product}
 use Rattle.tariff.proofs.money.product.Goals as goal
 
-pub overflow-mul-result : goal.overflow-mul-result
-overflow-mul-result c =
+pub overflow_mul-result : goal.overflow_mul-result
+overflow_mul-result c =
     let q = c.args.quantity in
     let p = c.args.price in
     let h : p < 2 ^ 32 = omega arith in
