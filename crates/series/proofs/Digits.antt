@@ -5,7 +5,7 @@ use lib.Count.{ones, count_leading_zeros, leading_unique, ones_cat, ones-ones}
 use lib.Bits.{bit_and, bit_or, or_zero_r, shifted_even}
 use Rattle.std.proofs.lemmas.Nat.{pow_pos, pow-add, pow_below, mod-pow-add, mod_below, shl-shr, or_shr, or_mod, and_mask, or_lt, leading_top}
 use Rattle.std.proofs.lemmas.Bool.{cases_eq, cases_lt, eq-eqb, ne_eqb}
-use Rattle.series.specs.Days.{held, latest, if_none, published_upto, one_if}
+use Rattle.series.specs.Days.{held, latest, published_upto}
 
 -- the lowest suc k digits of n are the digit k and the k digits below it
 split_more : (n k : ℕ) → n % 2 ^ suc k ≡ (n / 2 ^ k % 2) * 2 ^ k + n % 2 ^ k

@@ -5,7 +5,7 @@ use Rattle.extremes.proofs.sum_of_five_first.Goals as goal
 
 pub returns : goal.returns
 returns g c =
-    let five = c.five-first-five in
+    let five = c.five_first-five in
     let xs = c.args.xs.now in
     let s = sorted g.O.Order.upto xs in
     let five-long : length five.result ≡ 5 = search rules in

@@ -1,4 +1,4 @@
-use Rattle.std.proofs.Common.{◌≡◌, ◌^◌, ◌<◌, Some, None, sym, refl, ap, ◌∙◌}
+use Rattle.std.proofs.Common.{Some, None, sym, refl, ap, ◌∙◌}
 use Rattle.series.specs.Days.{entered, or_else}
 use Rattle.series.proofs.Digits.{in_month, masked, none_upto, some_upto}
 use Rattle.series.proofs.Rules.{follows}
@@ -9,7 +9,7 @@ returns-then-upto-eq0 c =
     let s = c.args.self.now in
     let day = c.args.day in
     let fits = in_month s.published s.days s.dayed.2 s.dayed.3 in
-    let upto = masked s.published day c.days-upto.result fits c.days-upto.ensures in
+    let upto = masked s.published day c.days_upto.result fits c.days_upto.ensures in
     let none = none_upto s.published s.prices day (sym upto ∙ c.if-upto-eq0.true) in
     record {
       within = tt;
@@ -22,7 +22,7 @@ returns c =
     let s = c.args.self.now in
     let day = c.args.day in
     let fits = in_month s.published s.days s.dayed.2 s.dayed.3 in
-    let upto = masked s.published day c.days-upto.result fits c.days-upto.ensures in
+    let upto = masked s.published day c.days_upto.result fits c.days_upto.ensures in
     let some = some_upto s.published s.prices day _ fits upto c.if-upto-eq0.false in
     record {
       within = (some.0, some.1);

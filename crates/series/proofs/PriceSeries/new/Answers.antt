@@ -3,8 +3,8 @@ use Rattle.std.proofs.lemmas.Nat.{pow_pos}
 use Rattle.series.proofs.Digits.{zeros}
 use Rattle.series.proofs.PriceSeries.new.Goals as goal
 
-pub invariant-of-result : goal.invariant-of-result
-invariant-of-result c = (
-  (c.days.ensures.value, omega arith, omega arith, pow_pos _),
-  ((omega arith, λ k. omega (arith, zeros 31 k)), tt),
-)
+pub invariant_of-result : goal.invariant_of-result
+invariant_of-result c = record {
+  dayed = (c.days.ensures.value, omega arith, omega arith, pow_pos _);
+  priced = (omega arith, λ k. omega (arith, zeros 31 k));
+}
