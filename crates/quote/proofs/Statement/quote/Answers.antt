@@ -9,9 +9,9 @@ returns g c =
     let o = g.O.BalancingOption.rules c.args.option.now in
     let s = c.args.self.now in
     let p = c.args.prices.now in
-    let back = sym c.split-and-cash-out.ensures in
+    let back = sym c.split_and_cash_out.ensures in
     record {
-      value = c.split-and-cash-out.ensures;
-      no-gas-is-lost = subst (λ (q : Quote). Whole s q) back ((g.met.O.BalancingOption.sound c.args.option.now).parts_add_up s.usage s.monthly_quantity s.imbalance);
+      value = c.split_and_cash_out.ensures;
+      no_gas_is_lost = subst (λ (q : Quote). Whole s q) back ((g.met.O.BalancingOption.sound c.args.option.now).parts_add_up s.usage s.monthly_quantity s.imbalance);
       half_a_cent_a_line = subst (λ (q : Quote). HalfACentALine p q) back (total_near p (parts_of o s));
     }

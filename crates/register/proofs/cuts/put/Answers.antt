@@ -7,8 +7,8 @@ use Rattle.register.proofs.cuts.put.Goals as goal
 within : (g : given.Over) (c : goal.Start g) → c.args.place < length c.args.list.now
 within g c = omega (arith, length-drop c.args.place c.args.list.now)
 
-pub offset-bounds-list-place : goal.offset-bounds-list-place
-offset-bounds-list-place g c = let h = within g c in search rules
+pub offset_bounds-list-place : goal.offset_bounds-list-place
+offset_bounds-list-place g c = let h = within g c in search rules
 
 pub bounds-list-place : goal.bounds-list-place
 bounds-list-place g c = within g c

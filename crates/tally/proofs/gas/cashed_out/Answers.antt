@@ -7,7 +7,7 @@ use Rattle.tally.proofs.gas.cashed_out.Goals as goal
 
 pub loop-line-preserved : goal.loop-line-preserved
 loop-line-preserved c =
-    let more = cashed_more c.args.lines.now c.loop-line.line-index c.cashed-by.result c.loop-line-test.true c.cashed-by.ensures in
+    let more = cashed_more c.args.lines.now c.loop-line.line-index c.cashed_by.result c.loop-line-test.true c.cashed_by.ensures in
     (omega (arith, ints, c.loop-line.invariant.0, more), omega (arith, ints, c.loop-line.invariant.1))
 
 pub returns : goal.returns

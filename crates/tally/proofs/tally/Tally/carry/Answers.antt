@@ -15,13 +15,13 @@ returns-then-member-agent c =
       offers = offers_of c.args.self.now.offers;
     }
 
-pub returns-in-default : goal.returns-in-default
-returns-in-default c =
+pub returns-in_default : goal.returns-in_default
+returns-in_default c =
     let n = numbers_of c.args.self.now.numbers in
     let m = c.args.member in
     let a = c.args.agent in
     let here = folded_here m a (n m) n c.if-member-agent.false in
-    (refl, λ f. c.in-default.ensures (subst (Kept a) (here ∙ omega (arith, ints)) (f.numbers a)))
+    (refl, λ f. c.in_default.ensures (subst (Kept a) (here ∙ omega (arith, ints)) (f.numbers a)))
 
 pub returns : goal.returns
 returns c =

@@ -5,11 +5,11 @@ use Rattle.tally.specs.Meanings.{numbers_of, offers_of}
 use Rattle.tally.proofs.Algebra.{added_here, placed_added}
 use Rattle.tally.proofs.tally.Tally.count.Goals as goal
 
-pub returns-in-default : goal.returns-in-default
-returns-in-default c =
+pub returns-in_default : goal.returns-in_default
+returns-in_default c =
     let a = c.args.account in
     let here = added_here a c.args.by (numbers_of c.args.self.now.numbers) in
-    (refl, λ f. c.in-default.ensures (subst (Kept a) (here ∙ omega (arith, ints)) (f.numbers a)))
+    (refl, λ f. c.in_default.ensures (subst (Kept a) (here ∙ omega (arith, ints)) (f.numbers a)))
 
 pub returns : goal.returns
 returns c =

@@ -19,19 +19,19 @@ returns-then-giver-taker c =
       offers = offers_of c.args.self.now.offers;
     }
 
-pub returns-in-default : goal.returns-in-default
-returns-in-default c =
+pub returns-in_default : goal.returns-in_default
+returns-in_default c =
     let n = numbers_of c.args.self.now.numbers in
     let g = c.args.giver in
     let here = given_here g c.args.taker (pos c.args.quantity) n c.if-giver-taker.false in
-    (refl, λ os f. c.in-default.ensures (subst (Kept g) (here ∙ omega (arith, ints)) (f.numbers g)))
+    (refl, λ os f. c.in_default.ensures (subst (Kept g) (here ∙ omega (arith, ints)) (f.numbers g)))
 
-pub returns-in-default-grown : goal.returns-in-default-grown
-returns-in-default-grown c =
+pub returns-in_default-grown : goal.returns-in_default-grown
+returns-in_default-grown c =
     let n = numbers_of c.args.self.now.numbers in
     let k = c.args.taker in
     let here = taken_here c.args.giver k (pos c.args.quantity) n c.if-giver-taker.false in
-    (refl, λ os f. c.in-default-grown.ensures (subst (Kept k) (here ∙ omega (arith, ints)) (f.numbers k)))
+    (refl, λ os f. c.in_default-grown.ensures (subst (Kept k) (here ∙ omega (arith, ints)) (f.numbers k)))
 
 pub returns : goal.returns
 returns c =
