@@ -7,8 +7,8 @@ use Rattle.register.proofs.Wrotes.{wrote_more, wrote_room}
 use Rattle.ledger.proofs.Lowest.{lines_more, lines_all}
 use Rattle.ledger.proofs.closing.bill_pages.Goals as goal
 
-pub bill-page-requires : goal.bill-page-requires
-bill-page-requires c =
+pub bill_page-requires : goal.bill_page-requires
+bill_page-requires c =
     let t = c.args.terms.now in
     let k = c.args.credits.now in
     let xs = c.args.pages.now in
@@ -34,7 +34,7 @@ loop-i-preserved c =
     let past = all_lines t k (i + 1) (drop (i + 1) xs) in
     let more = lines_more t k xs i (omega arith) in (
       h.0 ++ here,
-      wrote_more _ _ _ _ _ h.1 c.bill-page.ensures,
+      wrote_more _ _ _ _ _ h.1 c.bill_page.ensures,
       append_assoc h.0 here past ∙ ap (λ ls. h.0 ++ ls) (sym more) ∙ h.2,
     )
 

@@ -9,11 +9,11 @@ loop-page-preserved c =
     let k = c.args.credits.now in
     let xs = c.args.pages.now in
     let i = c.loop-page.page-index in (
-      omega (arith, c.closing-line-count-lines.ensures.few, c.loop-page.invariant.0),
+      omega (arith, c.closing_line_count-lines.ensures.few, c.loop-page.invariant.0),
       λ t.
           let more = ap length (lines_more t k xs i (omega arith)) in
           let both = length-append (closing_lines t k i (get_or xs i blank)) (all_lines t k (i + 1) (drop (i + 1) xs)) in
-          let here : c.closing-line-count-lines.result ≡ length (closing_lines t k i (get_or xs i blank)) = c.closing-line-count-lines.ensures.exact t i in
+          let here : c.closing_line_count-lines.result ≡ length (closing_lines t k i (get_or xs i blank)) = c.closing_line_count-lines.ensures.exact t i in
           omega (arith, c.loop-page.invariant.1 t, more, both, here),
     )
 

@@ -5,22 +5,22 @@ use Rattle.page.specs.Pages.{blank, gas_on}
 use Rattle.ledger.specs.Ledgers.{gas_on_all}
 use Rattle.ledger.proofs.ledger.gas_in.Goals as goal
 
-pub overflow-add-total : goal.overflow-add-total
-overflow-add-total c =
-    let held : SFits w64 c.gas-held-total.result = omega (arith, ints, c.gas-held-total.ensures.bound) in
-    let same = to_z-of_z w64 c.gas-held-total.result held in
-    omega (arith, ints, same, c.gas-held-total.ensures.bound, c.loop-page.invariant.0, c.loop-page.total-is, c.loop-page-test.true)
+pub overflow_add-total : goal.overflow_add-total
+overflow_add-total c =
+    let held : SFits w64 c.gas_held-total.result = omega (arith, ints, c.gas_held-total.ensures.bound) in
+    let same = to_z-of_z w64 c.gas_held-total.result held in
+    omega (arith, ints, same, c.gas_held-total.ensures.bound, c.loop-page.invariant.0, c.loop-page.total-is, c.loop-page-test.true)
 
 pub loop-page-preserved : goal.loop-page-preserved
 loop-page-preserved c =
-    let held : SFits w64 c.gas-held-total.result = omega (arith, ints, c.gas-held-total.ensures.bound) in
-    let same = to_z-of_z w64 c.gas-held-total.result held in
-    let fits : SFits w64 (c.loop-page.total +ℤ to_z w64 (of_z w64 c.gas-held-total.result)) =
-    omega (arith, ints, same, c.gas-held-total.ensures.bound, c.loop-page.invariant.0, c.loop-page.total-is, c.loop-page-test.true) in
+    let held : SFits w64 c.gas_held-total.result = omega (arith, ints, c.gas_held-total.ensures.bound) in
+    let same = to_z-of_z w64 c.gas_held-total.result held in
+    let fits : SFits w64 (c.loop-page.total +ℤ to_z w64 (of_z w64 c.gas_held-total.result)) =
+    omega (arith, ints, same, c.gas_held-total.ensures.bound, c.loop-page.invariant.0, c.loop-page.total-is, c.loop-page-test.true) in
     let sum = to_z-of_z w64 _ fits in
     let more = at_drop_more gas_on_all c.args.pages.now c.loop-page.page-index blank (omega arith) in (
-      omega (arith, ints, same, sum, c.gas-held-total.ensures.bound, c.loop-page.invariant.0, c.loop-page.total-is),
-      omega (arith, ints, same, sum, more, c.gas-held-total.ensures.value, c.loop-page.invariant.1),
+      omega (arith, ints, same, sum, c.gas_held-total.ensures.bound, c.loop-page.invariant.0, c.loop-page.total-is),
+      omega (arith, ints, same, sum, more, c.gas_held-total.ensures.value, c.loop-page.invariant.1),
     )
 
 pub returns : goal.returns

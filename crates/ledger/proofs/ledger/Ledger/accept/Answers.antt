@@ -7,14 +7,14 @@ use Rattle.ledger.specs.Calls.{accepting, confirmed}
 use Rattle.ledger.specs.Ledgers.{offer_at}
 use Rattle.ledger.proofs.ledger.Ledger.accept.Goals as goal
 
-pub returns-in-err-room-for : goal.returns-in-err-room-for
-returns-in-err-room-for c =
+pub returns-in_err-room_for : goal.returns-in_err-room_for
+returns-in_err-room_for c =
     let l = c.args.self.now in
     let none : (accepting l c.args.taker c.args.place (length (free c.args.trades.now))).trades ≡ [] = grind (arith, nat_tests) in
     record {
       answer = grind (arith, nat_tests);
-      ledger-after = grind (arith, nat_tests);
-      trades-after = subst (λ (ts : List Trade). Wrote c.args.trades.now ts c.args.trades.now) (sym none) (wrote_none c.args.trades.now);
+      ledger_after = grind (arith, nat_tests);
+      trades_after = subst (λ (ts : List Trade). Wrote c.args.trades.now ts c.args.trades.now) (sym none) (wrote_none c.args.trades.now);
     }
 
 pub returns : goal.returns
@@ -23,6 +23,6 @@ returns c =
     let one : (accepting l c.args.taker c.args.place (length (free c.args.trades.now))).trades ≡ confirmed l (offer_at l c.args.place) ∷ [] = grind (arith, nat_tests) in
     record {
       answer = grind (arith, nat_tests);
-      ledger-after = grind (arith, nat_tests);
-      trades-after = subst (λ (ts : List Trade). Wrote c.args.trades.now ts c.confirm.new.trades) (sym one) c.confirm.ensures;
+      ledger_after = grind (arith, nat_tests);
+      trades_after = subst (λ (ts : List Trade). Wrote c.args.trades.now ts c.confirm.new.trades) (sym one) c.confirm.ensures;
     }

@@ -4,5 +4,5 @@ use Rattle.ledger.proofs.ledger.Ledger.set_page.Goals as goal
 pub returns : goal.returns
 returns c = record {
   answer = one_page_answer _ _ _ c.requires c.set.ensures.answer;
-  ledger-after = one_page_after c.args.self.now _ _ _ _ c.requires c.set.ensures.page-after;
+  ledger_after = one_page_after c.args.self.now _ _ _ _ c.requires c.set.ensures.page_after;
 }
