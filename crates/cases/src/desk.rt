@@ -1,5 +1,6 @@
 // A book with both registers, where the gas is added up apart.
 use crate::amounts::{gas_in, gas_out};
+use crate::fields::{must, same};
 use balancing::{Monthly, SelfBalancing, TierPrices};
 use book::Book;
 use cards::FixedCard;
@@ -89,13 +90,16 @@ impl<'a> Desk<'a> {
         if answer.is_ok() {
             let out = gas_out(self.bills.since(lines));
             self.due = self.due.wrapping_add(due);
-            assert!(self.tally.feed(call, self.bills.since(lines)).is_ok());
+            must(
+                self.tally.feed(call, self.bills.since(lines)).is_ok(),
+                "the tally counts a performed call",
+            )?;
             self.gas = self.gas.wrapping_add(gas_in(call)).wrapping_sub(out);
         } else {
-            assert_eq!(self.bills.len(), lines);
-            assert_eq!(self.trades.len(), trades);
+            same(self.bills.len() as i128, lines as i128)?;
+            same(self.trades.len() as i128, trades as i128)?;
         }
-        assert_eq!(self.book.gas() as i128, self.gas);
+        same(self.book.gas() as i128, self.gas)?;
         Ok(answer)
     }
 }

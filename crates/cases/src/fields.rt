@@ -34,8 +34,22 @@ pub(crate) fn small(text: &str, place: usize) -> Result<u8, Fail> {
     }
 }
 
+/// That something holds.
+pub(crate) fn must(holds: bool, what: &'static str) -> Result<(), Fail> {
+    if holds { Ok(()) } else { Err(Fail::new(what)) }
+}
+
+/// That a number is the one that is wanted.
+pub(crate) fn same(number: i128, wanted: i128) -> Result<(), Fail> {
+    if number == wanted {
+        Ok(())
+    } else {
+        Err(Fail::new(format_args!("{number} in place of {wanted}")))
+    }
+}
+
 /// That the number at a place is this one.
 pub(crate) fn is(text: &str, place: usize, number: i64) -> Result<(), Fail> {
-    assert_eq!(number, signed(text, place)?);
-    Ok(())
+    let wanted = signed(text, place)?;
+    same(number as i128, wanted as i128)
 }

@@ -1,8 +1,9 @@
 // Plays a script: each line is a call or a look, an equals sign, and what the rules give for it.
 use crate::desk::Desk;
-use crate::fields::{is, large, signed, small};
+use crate::fields::{is, large, must, same, signed, small};
 use crate::looks::{look, page_is};
 use records::{BillLine, Call, Component, Trade};
+use std::io::Eprint;
 use std::test::*;
 use tariff::{BillKind, Charge, Fault, Month};
 
@@ -16,10 +17,7 @@ fn fault_is(fault: &Fault, wanted: &str) -> Result<(), Fail> {
 /// `done`, `place P`, or `refused ROW LAYER ACCOUNT`.
 fn answer_is(answer: &Result<Option<u8>, Fault>, wanted: &str) -> Result<(), Fail> {
     match answer {
-        Ok(None) => {
-            assert!(wanted == "done");
-            Ok(())
-        },
+        Ok(None) => { must(wanted == "done", "performed") },
         Ok(Some(place)) => match wanted.strip_prefix("place ") {
             Some(text) => is(text, 0, *place as i64),
             None => Err(Fail::new("performed, with a place")),
@@ -149,7 +147,7 @@ impl<'a> Desk<'a> {
                 quantity: 1,
             };
             match self.ask(&call, &settling, &closing)? {
-                Ok(Some(given)) => assert_eq!(given, place),
+                Ok(Some(given)) => same(given as i128, place as i128)?,
                 Ok(None) => return Err(Fail::new("no place")),
                 Err(fault) => return Err(Fail::new(fault)),
             }
@@ -161,7 +159,8 @@ impl<'a> Desk<'a> {
     fn page(&self, rest: &str, wanted: &str) -> Result<(), Fail> {
         match self.book.page(small(rest, 0)?) {
             Ok(page) => {
-                assert_eq!(self.tally.number(small(rest, 0)?), page.gas_held());
+                let number = self.tally.number(small(rest, 0)?);
+                same(number as i128, page.gas_held() as i128)?;
                 page_is(&page, wanted)
             }
             Err(fault) => match wanted.strip_prefix("refused ") {
@@ -213,12 +212,16 @@ impl<'a> Desk<'a> {
         }
     }
 
-    /// Plays every line; an empty one is passed over.
-    pub(crate) fn play(&mut self, script: &str) -> Result<(), Fail> {
+    /// Plays every line; an empty one is passed over. A line that fails is told.
+    pub(crate) fn play(&mut self, rt: &impl Eprint, script: &str) -> Result<(), Fail> {
         for line in script.lines() {
-            match line.split_once(" = ") {
-                Some((asked, wanted)) => self.step(asked, wanted).note(line)?,
-                None => assert!(line.is_empty(), "{}", line),
+            let played = match line.split_once(" = ") {
+                Some((asked, wanted)) => self.step(asked, wanted),
+                None => must(line.is_empty(), "a line without an equals sign"),
+            };
+            if let Err(fail) = played {
+                let _ = eprintln!(rt; "at the line: {line}");
+                return Err(fail);
             }
         }
         Ok(())

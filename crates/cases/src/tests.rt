@@ -5,15 +5,16 @@ use crate::script::{no_line, no_trade};
 use crate::{scripts, year};
 use balancing::{Monthly, SelfBalancing};
 use book::Book;
+use std::io::Eprint;
 use std::process::Abort;
 use std::test::*;
 
 /// Plays a script on an empty book that starts in a month.
-fn plays(year: u16, month: u8, script: &str) -> Result<(), Fail> {
+fn plays(rt: &impl Eprint, year: u16, month: u8, script: &str) -> Result<(), Fail> {
     let mut lines = [no_line()?; 16];
     let mut trades = [no_trade()?; 16];
     let mut desk = Desk::new(year, month, &mut lines, &mut trades)?;
-    desk.play(script)
+    desk.play(rt, script)
 }
 
 /// Row and account of what a new book answers, 0 where it starts.
@@ -45,78 +46,78 @@ fn starting_months(rt: HostRuntime) -> Result<(), Fail> {
 }
 
 #[test]
-fn opening() -> Result<(), Fail> {
-    plays(2026, 2, scripts::OPENING)
+fn opening(rt: HostRuntime) -> Result<(), Fail> {
+    plays(&rt, 2026, 2, scripts::OPENING)
 }
 
 #[test]
-fn days() -> Result<(), Fail> {
-    plays(2026, 2, scripts::DAYS)
+fn days(rt: HostRuntime) -> Result<(), Fail> {
+    plays(&rt, 2026, 2, scripts::DAYS)
 }
 
 #[test]
-fn leap_year() -> Result<(), Fail> {
-    plays(2000, 2, scripts::LEAP)
+fn leap_year(rt: HostRuntime) -> Result<(), Fail> {
+    plays(&rt, 2000, 2, scripts::LEAP)
 }
 
 #[test]
-fn last_month() -> Result<(), Fail> {
-    plays(2099, 12, scripts::LAST)
+fn last_month(rt: HostRuntime) -> Result<(), Fail> {
+    plays(&rt, 2099, 12, scripts::LAST)
 }
 
 #[test]
-fn closing() -> Result<(), Fail> {
-    plays(2026, 2, scripts::CLOSING)
+fn closing(rt: HostRuntime) -> Result<(), Fail> {
+    plays(&rt, 2026, 2, scripts::CLOSING)
 }
 
 #[test]
-fn settling() -> Result<(), Fail> {
-    plays(2026, 2, scripts::SETTLING)
+fn settling(rt: HostRuntime) -> Result<(), Fail> {
+    plays(&rt, 2026, 2, scripts::SETTLING)
 }
 
 #[test]
-fn tiers() -> Result<(), Fail> {
-    plays(2026, 2, scripts::TIERS)
+fn tiers(rt: HostRuntime) -> Result<(), Fail> {
+    plays(&rt, 2026, 2, scripts::TIERS)
 }
 
 #[test]
-fn carryover() -> Result<(), Fail> {
-    plays(2026, 2, scripts::CARRYOVER)
+fn carryover(rt: HostRuntime) -> Result<(), Fail> {
+    plays(&rt, 2026, 2, scripts::CARRYOVER)
 }
 
 #[test]
-fn trading() -> Result<(), Fail> {
-    plays(2026, 2, scripts::TRADING)
+fn trading(rt: HostRuntime) -> Result<(), Fail> {
+    plays(&rt, 2026, 2, scripts::TRADING)
 }
 
 #[test]
-fn offer_places() -> Result<(), Fail> {
-    plays(2026, 2, scripts::PLACES)
+fn offer_places(rt: HostRuntime) -> Result<(), Fail> {
+    plays(&rt, 2026, 2, scripts::PLACES)
 }
 
 #[test]
-fn folding() -> Result<(), Fail> {
-    plays(2026, 2, scripts::FOLDING)
+fn folding(rt: HostRuntime) -> Result<(), Fail> {
+    plays(&rt, 2026, 2, scripts::FOLDING)
 }
 
 #[test]
-fn largest_quantities() -> Result<(), Fail> {
-    plays(2026, 1, scripts::LARGEST)
+fn largest_quantities(rt: HostRuntime) -> Result<(), Fail> {
+    plays(&rt, 2026, 1, scripts::LARGEST)
 }
 
 #[test]
-fn short_registers() -> Result<(), Fail> {
+fn short_registers(rt: HostRuntime) -> Result<(), Fail> {
     let mut lines = [no_line()?; 2];
     let mut trades = [no_trade()?; 1];
     let mut desk = Desk::new(2026, 2, &mut lines, &mut trades)?;
-    desk.play(scripts::SHORT)
+    desk.play(&rt, scripts::SHORT)
 }
 
 #[test]
-fn shorter_registers() -> Result<(), Fail> {
+fn shorter_registers(rt: HostRuntime) -> Result<(), Fail> {
     let mut lines = [no_line()?; 1];
     let mut desk = Desk::new(2026, 2, &mut lines, &mut [])?;
-    desk.play(scripts::SHORTER)
+    desk.play(&rt, scripts::SHORTER)
 }
 
 #[test]
@@ -124,8 +125,8 @@ fn a_year(rt: HostRuntime) -> Result<(), Fail> {
     let mut lines = [no_line()?; 128];
     let mut trades = [no_trade()?; 64];
     let mut desk = Desk::new(2026, 1, &mut lines, &mut trades)?;
-    desk.play(year::FIRST_HALF)?;
-    desk.play(year::SECOND_HALF)?;
+    desk.play(&rt, year::FIRST_HALF)?;
+    desk.play(&rt, year::SECOND_HALF)?;
     let billed = billed(desk.bills.since(0));
     let most = desk.bills.len() as u128 * 5_000;
     assert!(rt; billed.abs_diff(desk.due) <= most);
