@@ -1,6 +1,6 @@
 -- Worked figures of carryovers, each beside its rule's definition.
 use Rattle.std.specs.Prelude.{ℕ, ◌≡◌, true, false, leb, ℤ, pos, nat_abs, ◌+ℤ◌}
-use Rattle.tariff.specs.Faults.{Answer, refused, book_layer}
+use Rattle.tariff.specs.Faults.{refused, book_layer}
 use Rattle.tariff.specs.declared.month.Month.{Month}
 use Rattle.balancing.specs.Rules.{Rules}
 use Rattle.balancing.specs.declared.option.Parts.{Parts}

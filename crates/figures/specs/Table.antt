@@ -1,5 +1,5 @@
 -- Worked figures of the written rules, each beside its rule's definition.
-use Rattle.std.specs.Prelude.{◌≡◌, ℕ, ℤ, pos, negsuc, neg_ℤ}
+use Rattle.std.specs.Prelude.{◌≡◌, ℕ, ℤ, pos, neg_ℤ}
 use Rattle.balancing.specs.Cashouts.{tier_one_line, cents_of}
 use Rattle.balancing.specs.Options.{monthly, self_balancing}
 use Rattle.cards.specs.Index.{dollars}

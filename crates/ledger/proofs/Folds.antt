@@ -1,5 +1,5 @@
 -- A folding, seen from the ledger.
-use Rattle.std.proofs.Common.{◌≡◌, ℕ, ◌<◌, Bool, true, false, cond, List, [], ◌∷◌, set, None, Option, sym, refl, ap, ◌∙◌, arith}
+use Rattle.std.proofs.Common.{◌≡◌, ℕ, true, false, List, [], ◌∷◌, None, sym, refl, ap, ◌∙◌, arith}
 use lib.Seq.{set-get_or}
 use Rattle.tariff.specs.Faults.{Answer, done, refused}
 use Rattle.page.specs.Folding.{folding_refusals, folding_answer, page_folded, joined, retired}

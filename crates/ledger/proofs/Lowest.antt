@@ -1,9 +1,8 @@
 -- The loops over all pages.
-use Rattle.std.proofs.Common.{◌≡◌, ℕ, suc, ◌+◌, ◌<◌, ◌≤◌, Bool, true, false, not, List, ◌++◌, length, get_or, drop, sym, refl, ap, ◌∙◌, add-one, arith}
+use Rattle.std.proofs.Common.{◌≡◌, ℕ, ◌+◌, ◌<◌, ◌≤◌, Bool, true, false, not, List, ◌++◌, length, get_or, drop, sym, ap, ◌∙◌, add-one, arith}
 use Rattle.std.proofs.lemmas.List.{at_drop_more, at_drop_all}
 use Rattle.std.proofs.lemmas.List.Sums.{prefix_len-drop_yes, prefix_len-drop_no, prefix_len-drop_all}
 use Rattle.cards.specs.declared.terms.Terms.{Terms}
-use Rattle.records.specs.declared.lines.BillLine.{BillLine}
 use Rattle.page.specs.Closing.{closing_lines, all_lines}
 use Rattle.page.specs.Pages.{blank}
 use Rattle.page.specs.declared.closing.Credits.{Credits}

@@ -1,5 +1,5 @@
 -- A call on one page, seen from the ledger.
-use Rattle.std.proofs.Common.{◌≡◌, ℕ, ◌<◌, Bool, cond, leb, set, Option, refl, ap, ◌∙◌}
+use Rattle.std.proofs.Common.{◌≡◌, ℕ, ◌<◌, cond, leb, Option, refl, ap}
 use lib.Seq.{set-get_or}
 use Rattle.std.proofs.lemmas.Bool.{lt-leb}
 use Rattle.tariff.specs.Faults.{Answer, done, refused, book_layer, no_account}

@@ -1,5 +1,5 @@
 -- The ten calls on a ledger: what each comes to. Rows are tested from the top.
-use Rattle.std.specs.Prelude.{ℕ, suc, ◌+◌, Bool, true, false, cond, not, ◌&&◌, ◌||◌, List, [], ◌∷◌, map, length, ℤ, pos, Some, None, Option, ◌==◌, nat_le, nat_lt, slice_set}
+use Rattle.std.specs.Prelude.{ℕ, ◌+◌, Bool, true, false, not, ◌&&◌, ◌||◌, List, [], ◌∷◌, map, length, ℤ, pos, Some, None, Option, ◌==◌, nat_le, nat_lt, slice_set}
 use Rattle.std.specs.List.{prefix_len}
 use Rattle.tariff.specs.Faults.{no_account}
 use Rattle.tariff.specs.Months.{days_in, following, preceding, same_month}
@@ -7,8 +7,6 @@ use Rattle.tariff.specs.declared.month.Month.{Month}
 use Rattle.balancing.specs.Rules.{Rules}
 use Rattle.cards.specs.declared.terms.Terms.{Terms}
 use Rattle.records.specs.Components.{component_of}
-use Rattle.records.specs.declared.component.Component.{Component}
-use Rattle.records.specs.declared.component.Component.TheVariants.{Statement, Operating}
 use Rattle.records.specs.declared.lines.Trade.{Trade}
 use Rattle.records.specs.Accounts.{kind_of, election_of}
 use Rattle.page.specs.Adjusting.{adjusting_refusals, adjusted, stating_refusals, stated}

@@ -1,5 +1,5 @@
 -- What a ledger holds: the running month, 64 pages, and the offers since the last closing.
-use Rattle.std.specs.Prelude.{ℕ, ◌+◌, false, not, List, [], ◌∷◌, replicate, ℤ, pos, ◌+ℤ◌, Option, nat_le, slice_index_or, slice_set}
+use Rattle.std.specs.Prelude.{ℕ, false, not, List, [], ◌∷◌, replicate, ℤ, pos, ◌+ℤ◌, Option, nat_le, slice_index_or, slice_set}
 use Rattle.tariff.specs.Faults.{Answer, no_account}
 use Rattle.tariff.specs.declared.month.Month.{Month}
 use Rattle.records.specs.declared.component.Component.TheVariants.{Statement}

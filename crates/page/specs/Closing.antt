@@ -1,5 +1,5 @@
 -- Closing: what it bills on a page, and how it turns the page.
-use Rattle.std.specs.Prelude.{ℕ, suc, Bool, true, false, cond, not, ◌&&◌, List, [], ◌∷◌, ◌++◌, ℤ, pos, ◌==◌}
+use Rattle.std.specs.Prelude.{ℕ, suc, Bool, false, cond, not, ◌&&◌, List, [], ◌∷◌, ◌++◌, pos, ◌==◌}
 use Rattle.tariff.specs.declared.bill.BillKind.TheVariants.{DailyExcess, AccumulatedExcess, Credit}
 use Rattle.balancing.specs.Cashouts.{tier_line}
 use Rattle.balancing.specs.Rules.{Rules}

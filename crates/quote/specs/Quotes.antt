@@ -6,7 +6,6 @@ use Rattle.tariff.specs.Money.{Within}
 use Rattle.balancing.specs.Rules.{Rules}
 use Rattle.tariff.specs.declared.bill.BillKind.TheVariants.{TierOne, TierTwo}
 use Rattle.tariff.specs.declared.bill.Charge.{Charge}
-use Rattle.balancing.specs.declared.cashout.Cashout.{Cashout}
 use Rattle.balancing.specs.declared.cashout.TierPrices.{TierPrices}
 use Rattle.balancing.specs.declared.option.Parts.{Parts}
 use Rattle.quote.specs.declared.Quote.{Quote}

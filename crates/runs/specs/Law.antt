@@ -1,5 +1,5 @@
 -- The law of the book: what holds after every list of events, performed or refused.
-use Rattle.std.specs.Prelude.{◌≡◌, ℕ, ◌*◌, ◌<◌, Bool, true, false, ◌&&◌, List, length, ℤ, pos, ◌+ℤ◌, ◌-ℤ◌, ◌*ℤ◌, nat_lt}
+use Rattle.std.specs.Prelude.{◌≡◌, ℕ, ◌*◌, ◌<◌, Bool, true, false, ◌&&◌, List, length, pos, ◌+ℤ◌, ◌-ℤ◌, ◌*ℤ◌, nat_lt}
 use Rattle.std.specs.List.{AllByRecursion as All}
 use Rattle.tariff.specs.Money.{Within}
 use Rattle.tariff.specs.declared.month.Month.{Month}

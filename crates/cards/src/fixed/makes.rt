@@ -3,7 +3,7 @@ ghost use Rattle.std.specs.Prelude.{◌≡◌};
 ghost use Rattle.tariff.specs.Faults.{answer};
 ghost use Rattle.cards.specs.Fixed.{fixed_terms, fixed_card};
 ghost use Rattle.cards.specs.Limits.{past_limit};
-ghost use Rattle.std.proofs.Common.{rules, arith};
+ghost use Rattle.std.proofs.Common.{rules};
 
 use crate::card::Card;
 use crate::fixed::FixedCard;
@@ -48,7 +48,7 @@ impl FixedCard {
 impl Card for FixedCard {
     ghost meaning = { λ c. fixed_terms c.month c.tiers };
 
-    ghost within_limits = { first_of (Prim.search rules, Prim.grind (arith, Self.row.coded.inj)) };
+    ghost within_limits = { Prim.search rules };
 
     fn terms(&self) -> Terms
         ensures { result ≡ fixed_terms self.now.month self.now.tiers }

@@ -2,7 +2,7 @@
 ghost use Rattle.std.specs.Prelude.{◌≡◌, ◌+◌, ◌<◌, ◌≤◌, false};
 ghost use Rattle.tariff.specs.Faults.{answer};
 ghost use Rattle.cards.specs.Index.{one_month, past_limits, no_supply, working_of, index_terms, index_card};
-ghost use Rattle.std.proofs.Common.{rules, arith};
+ghost use Rattle.std.proofs.Common.{rules};
 
 use crate::card::Card;
 use crate::index::IndexCard;
@@ -114,7 +114,7 @@ impl IndexCard {
 impl Card for IndexCard {
     ghost meaning = { λ c. c.terms };
 
-    ghost within_limits = { first_of (Prim.search rules, Prim.grind (arith, Self.row.coded.inj)) };
+    ghost within_limits = { Prim.search rules };
 
     fn terms(&self) -> Terms
         ensures { result ≡ self.now.terms }

@@ -1,4 +1,4 @@
-use Rattle.std.proofs.Common.{◌≡◌, ◌+◌, ◌<◌, ◌≤◌, length, get_or, drop, sym, ap, ◌∙◌, arith, length-append}
+use Rattle.std.proofs.Common.{◌≡◌, ◌+◌, length, get_or, drop, ap, arith, length-append}
 use Rattle.page.specs.Closing.{closing_lines, all_lines}
 use Rattle.page.specs.Pages.{blank}
 use Rattle.ledger.proofs.Lowest.{lines_more, lines_all}

@@ -1,4 +1,4 @@
-use Rattle.std.proofs.Common.{◌≡◌, sym, ◌∙◌, arith}
+use Rattle.std.proofs.Common.{sym, ◌∙◌, arith}
 use Rattle.page.specs.Closing.{unsettled}
 use Rattle.ledger.proofs.Lowest.{lowest_here, lowest_more, lowest_none}
 use Rattle.ledger.proofs.closing.lowest_unsettled.Goals as goal

@@ -1,7 +1,7 @@
-use Rattle.std.proofs.Common.{◌≡◌, ◌+◌, ◌<◌, ◌≤◌, length, get_or, drop, ◌+ℤ◌, sym, ap, ◌∙◌, arith, w64, SFits, to_z, of_z}
+use Rattle.std.proofs.Common.{◌+ℤ◌, arith, w64, SFits, to_z, of_z}
 use Rattle.std.proofs.lemmas.List.{at_drop_more, at_drop_all}
 use Rattle.std.proofs.lemmas.Int.{ints, to_z-of_z}
-use Rattle.page.specs.Pages.{blank, gas_on}
+use Rattle.page.specs.Pages.{blank}
 use Rattle.ledger.specs.Ledgers.{gas_on_all}
 use Rattle.ledger.proofs.ledger.gas_in.Goals as goal
 

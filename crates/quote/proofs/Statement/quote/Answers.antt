@@ -1,5 +1,5 @@
 use Rattle.std.proofs.Common.{sym, subst}
-use Rattle.quote.specs.Quotes.{quoted, parts_of, Whole, HalfACentALine}
+use Rattle.quote.specs.Quotes.{parts_of, Whole, HalfACentALine}
 use Rattle.quote.specs.declared.Quote.{Quote}
 use Rattle.quote.proofs.Totals.{total_near}
 use Rattle.quote.proofs.Statement.quote.Goals as goal

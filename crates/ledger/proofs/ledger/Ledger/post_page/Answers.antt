@@ -1,4 +1,3 @@
-use Rattle.std.proofs.Common.{◌≡◌, sym, ap, ◌∙◌, subst}
 use Rattle.ledger.proofs.Tables.{one_page_answer, one_page_after}
 use Rattle.ledger.proofs.ledger.Ledger.post_page.Goals as goal
 

@@ -1,4 +1,4 @@
-use Rattle.std.proofs.Common.{◌≡◌, List, [], refl, subst}
+use Rattle.std.proofs.Common.{List, [], refl, subst}
 use Rattle.records.specs.declared.lines.BillLine.{BillLine}
 use Rattle.register.specs.Registers.{Wrote}
 use Rattle.ledger.proofs.Tables.{one_page_answer, one_page_after, one_page_beside}
