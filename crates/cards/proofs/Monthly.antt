@@ -1,6 +1,6 @@
 -- What the loops over a month's days rest on: one more day.
 use Rattle.std.proofs.Common.{◌≡◌, ℕ, ◌+◌, ◌<◌, ◌≤◌, max, List, [], ◌∷◌, ◌++◌, length, take, set, ◌∙◌, add-one, arith}
-use Rattle.std.specs.List.{AllByRecursion as All}
+use Rattle.std.specs.List.{AllByRecursion}
 use Rattle.std.proofs.ByRecursion.{All-push}
 use Rattle.std.proofs.lemmas.List.{take_more_set, take_all}
 use Rattle.cards.specs.Index.{doubled, highest}
@@ -14,7 +14,7 @@ highest_more p k = rw add-one
 
 -- the doubles of the first i days stand in the first i places, none above the limit
 abbrev pub Written : (ℕ → ℕ) → (ℕ → ℕ) → ℕ → List ℕ → Type 0
-Written p q i xs = (take i xs ≡ doubled p q i) × All (λ x. x ≤ 20000000) (take i xs)
+Written p q i xs = (take i xs ≡ doubled p q i) × AllByRecursion (λ x. x ≤ 20000000) (take i xs)
 
 -- one more day's double is written
 abbrev pub WrittenMore : (ℕ → ℕ) → (ℕ → ℕ) → Type 0
@@ -27,7 +27,7 @@ written_more p q xs i v h so is small =
 
 -- at the end all of them are
 abbrev pub WrittenAll : (ℕ → ℕ) → (ℕ → ℕ) → Type 0
-WrittenAll p q = (xs : List ℕ) (i : ℕ) → i ≡ length xs → Written p q i xs → (xs ≡ doubled p q i) × All (λ x. x ≤ 20000000) xs
+WrittenAll p q = (xs : List ℕ) (i : ℕ) → i ≡ length xs → Written p q i xs → (xs ≡ doubled p q i) × AllByRecursion (λ x. x ≤ 20000000) xs
 
 pub written_all : (p q : ℕ → ℕ) → WrittenAll p q
 written_all p q xs i e so =

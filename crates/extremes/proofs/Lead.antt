@@ -1,6 +1,6 @@
 -- The number of a list that comes first, found by one pass that keeps the one that comes first so far. Assumes nothing.
 use Rattle.std.proofs.Common.{◌≡◌, ℕ, ◌+◌, ◌<◌, ◌≤◌, Bool, true, false, cond, List, [], ◌∷◌, length, get_or, take, fold, ap, ⊎_elim, arith}
-use Rattle.std.specs.List.{ContainsAt as Has, AllByRecursion as All}
+use Rattle.std.specs.List.{ContainsAt, AllByRecursion}
 use Rattle.std.proofs.ByRecursion.{All-get_or, all-has, all_has_itself, All-weaker, has_get_or, all_shuffled, has_shuffled}
 use Rattle.std.proofs.lemmas.List.{take_all}
 use Rattle.std.proofs.lemmas.List.Sorted.{length_permutation}
@@ -24,7 +24,7 @@ module _ (upto : ℕ → ℕ → Bool) where
   lead_facts a xs = (λ i h. fold_more (λ b x. cond (upto x b) x b) a xs i 0 h, λ i h. ap (lead a) (take_all i xs h))
 
   -- what holds of each of the numbers holds of the one that comes first
-  pub lead_keeps : (P : ℕ → Type 0) (a : ℕ) (xs : List ℕ) → P a → All P xs → P (lead a xs)
+  pub lead_keeps : (P : ℕ → Type 0) (a : ℕ) (xs : List ℕ) → P a → AllByRecursion P xs → P (lead a xs)
   lead_keeps P a [] p all = p
   lead_keeps P a (x ∷ xs) p all = lead_keeps P (cond (upto x a) x a) xs (cond_both (upto x a) x a P (λ _. all.0) (λ _. p)) all.1
 
@@ -32,7 +32,7 @@ module _ (upto : ℕ → ℕ → Bool) where
     itself : (x : ℕ) → upto x x ≡ true
     itself x = ⊎_elim (λ t. t) (λ f. total x x f) (cases_Bool (upto x x))
 
-    lead_first : (a : ℕ) (xs : List ℕ) → All (λ y. upto (lead a xs) y ≡ true) (a ∷ xs)
+    lead_first : (a : ℕ) (xs : List ℕ) → AllByRecursion (λ y. upto (lead a xs) y ≡ true) (a ∷ xs)
     lead_first a [] = (itself a, tt)
     lead_first a (x ∷ xs) =
         let b : ℕ = cond (upto x a) x a in
@@ -43,10 +43,10 @@ module _ (upto : ℕ → ℕ → Bool) where
         (chain l b a rest.0 to-a, (chain l b x rest.0 to-x, rest.1))
 
     pub lead_foremost : (xs : List ℕ) → 0 < length xs → Foremost upto xs (lead (get_or xs 0 0) xs)
-    lead_foremost xs some = (lead_keeps (Has xs) (get_or xs 0 0) xs (has_get_or xs 0 0 some) (all_has_itself xs), (lead_first (get_or xs 0 0) xs).1)
+    lead_foremost xs some = (lead_keeps (ContainsAt xs) (get_or xs 0 0) xs (has_get_or xs 0 0 some) (all_has_itself xs), (lead_first (get_or xs 0 0) xs).1)
 
     -- the first of a list in order comes no later than the others
-    first_of_ascending : (ys : List ℕ) → Ascending upto ys → All (λ y. upto (get_or ys 0 0) y ≡ true) ys
+    first_of_ascending : (ys : List ℕ) → Ascending upto ys → AllByRecursion (λ y. upto (get_or ys 0 0) y ≡ true) ys
     first_of_ascending [] h = tt
     first_of_ascending (y ∷ []) h = (itself y, tt)
     first_of_ascending (y ∷ z ∷ zs) h =

@@ -3,7 +3,7 @@
 #![tactic(auto)]
 
 ghost use Rattle.std.specs.Prelude.{◌≡◌, ℕ, ◌+◌, ◌*◌, ◌<◌, ◌≤◌, min, Bool, true, false, List, [], ◌∷◌, ◌++◌, length, take, if◌then◌else◌, Some, None, sum, MatchOption, nat_eq, nat_le, nat_lt, slice_index};
-ghost use Rattle.std.specs.List.{AllByRecursion as All};
+ghost use Rattle.std.specs.List.{AllByRecursion};
 ghost use Rattle.extremes.specs.Arranged.{Ascending, Foremost, InOrder, insert, sorted};
 ghost use Rattle.std.proofs.Common.{rules};
 
@@ -70,7 +70,7 @@ impl Order for Falling {
 pub fn first<O: Order>(xs: &[u32]) -> Option<u32>
     ensures value { result ≡ (if nat_eq (length xs.now) 0 then None else Some (slice_index (sorted O.Order.upto xs.now) 0)) }
     ensures foremost { MatchOption result (length xs.now ≡ 0) (λ x. Foremost O.Order.upto xs.now x) }
-    ensures bound { (m : ℕ) → All (λ x. x ≤ m) xs.now → MatchOption result (length xs.now ≡ 0) (λ x. x ≤ m) }
+    ensures bound { (m : ℕ) → AllByRecursion (λ x. x ≤ m) xs.now → MatchOption result (length xs.now ≡ 0) (λ x. x ≤ m) }
 {
     if xs.is_empty() {
         return None;
@@ -89,7 +89,7 @@ pub fn sum_of_five_first<O: Order>(xs: &[u32]) -> Option<u64>
     ensures value { result ≡ (if nat_lt (length xs.now) 5 then None else Some (sum (take 5 (sorted O.Order.upto xs.now)))) }
     ensures order { MatchOption result (length xs.now < 5) (λ _. InOrder O.Order.upto xs.now (sorted O.Order.upto xs.now)) }
     ensures any_order { (ys : List ℕ) → InOrder O.Order.upto xs.now ys → MatchOption result (length xs.now < 5) (λ s. s ≡ sum (take 5 ys)) }
-    ensures bound { (m : ℕ) → All (λ x. x ≤ m) xs.now → MatchOption result (length xs.now < 5) (λ s. s ≤ 5 * m) }
+    ensures bound { (m : ℕ) → AllByRecursion (λ x. x ≤ m) xs.now → MatchOption result (length xs.now < 5) (λ s. s ≤ 5 * m) }
 {
     if xs.len() < 5 {
         return None;
@@ -104,7 +104,7 @@ fn five_first<O: Order>(xs: &[u32]) -> [u32; 5]
     ensures five { result ≡ take 5 (sorted O.Order.upto xs.now) }
     ensures order { InOrder O.Order.upto xs.now (sorted O.Order.upto xs.now) }
     ensures any_order { (ys : List ℕ) → InOrder O.Order.upto xs.now ys → result ≡ take 5 ys }
-    ensures bound { (m : ℕ) → All (λ x. x ≤ m) xs.now → sum result ≤ 5 * m }
+    ensures bound { (m : ℕ) → AllByRecursion (λ x. x ≤ m) xs.now → sum result ≤ 5 * m }
 {
     let mut held = [0u32; 5];
     let mut count = 0usize;

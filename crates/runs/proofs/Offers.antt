@@ -1,6 +1,6 @@
 -- An offer counts at most once in the tally.
 use Rattle.std.proofs.Common.{◌≡◌, ℕ, ◌<◌, ◌≤◌, true, false, List, [], ◌∷◌, length, get_or, set, refl, ap, ◌∙◌, inl, inr, arith, length-set}
-use Rattle.std.specs.List.{AllByRecursion as All}
+use Rattle.std.specs.List.{AllByRecursion}
 use Rattle.std.proofs.lemmas.List.{get_or-set_same, get_or-set_other, get_or_append_left, get_or_past, length_push}
 use Rattle.std.proofs.lemmas.Bool.{cases_Bool, cases_eq, cases_lt, false≢true}
 use Rattle.records.specs.declared.call.Call.{Call}
@@ -65,7 +65,7 @@ stays_spent t k (Settle a c) ls h s = record { laid = s.laid; fell = s.fell }
 stays_spent t k Close ls h s = absurd (false≢true h)
 
 -- and every list of such calls
-pub all_stay_spent : (t : Tally) (k : ℕ) (xs : List Entry) → All (λ x. before_closing x.call ≡ true) xs → SpentAt t k → SpentAt (tallied t xs) k
+pub all_stay_spent : (t : Tally) (k : ℕ) (xs : List Entry) → AllByRecursion (λ x. before_closing x.call ≡ true) xs → SpentAt t k → SpentAt (tallied t xs) k
 all_stay_spent t k [] h s = s
 all_stay_spent t k (x ∷ xs) h s = all_stay_spent (fed t x.call x.lines) k xs h.1 (stays_spent t k x.call x.lines h.0 s)
 

@@ -1,6 +1,6 @@
 -- Tables of refusals: a call that is performed passed every line of its table.
 use Rattle.std.proofs.Common.{◌≡◌, ℕ, Bool, true, false, List, [], ◌∷◌, refl, arith}
-use Rattle.std.specs.List.{AllByRecursion as All}
+use Rattle.std.specs.List.{AllByRecursion}
 use Rattle.tariff.specs.Faults.{done}
 use Rattle.records.specs.Refusals.{Refusal, when, short, first_of}
 
@@ -11,7 +11,7 @@ test (short b) = b
 
 -- no line of a table refuses
 abbrev pub AllPassed : List Refusal → Type 0
-AllPassed ts = All (λ t. test t ≡ false) ts
+AllPassed ts = AllByRecursion (λ t. test t ≡ false) ts
 
 -- a call that is performed, whatever it gives, passed them all
 pub passed : {V : Type 0} (ts : List Refusal) (v x : V) → first_of ts v ≡ done x → AllPassed ts

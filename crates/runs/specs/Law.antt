@@ -1,6 +1,6 @@
 -- The law of the book: what holds after every list of events, performed or refused.
 use Rattle.std.specs.Prelude.{◌≡◌, ℕ, ◌*◌, ◌<◌, Bool, true, false, ◌&&◌, List, length, pos, ◌+ℤ◌, ◌-ℤ◌, ◌*ℤ◌, nat_lt}
-use Rattle.std.specs.List.{AllByRecursion as All}
+use Rattle.std.specs.List.{AllByRecursion}
 use Rattle.tariff.specs.Money.{Within}
 use Rattle.tariff.specs.declared.month.Month.{Month}
 use Rattle.balancing.specs.Rules.{Rules}
@@ -50,7 +50,7 @@ before_closing Close = false
 -- after whatever calls xs, changes nothing in the tally
 abbrev pub OffersCountOnce : Type 0
 OffersCountOnce = (t : Tally) (a b k : ℕ) (ls ms : List BillLine) (xs : List Entry)
-    → k < length t.offers → All (λ x. before_closing x.call ≡ true) xs
+    → k < length t.offers → AllByRecursion (λ x. before_closing x.call ≡ true) xs
     → fed (tallied (fed t (Accept a k) ls) xs) (Accept b k) ms ≡ tallied (fed t (Accept a k) ls) xs
 
 -- the offers that stand in the tally are those that stand in the book, place by place

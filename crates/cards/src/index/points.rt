@@ -1,6 +1,6 @@
 // A point's doubles over a month, and what comes first among them.
 ghost use Rattle.std.specs.Prelude.{◌≡◌, ℕ, ◌+◌, ◌*◌, ◌<◌, ◌≤◌, length, take, sum, slice_index};
-ghost use Rattle.std.specs.List.{AllByRecursion as All};
+ghost use Rattle.std.specs.List.{AllByRecursion};
 ghost use Rattle.series.specs.Days.{daily, days_of};
 ghost use Rattle.extremes.specs.Arranged.{sorted};
 ghost use Rattle.cards.specs.Index.{doubled, point_over, point_of, highest};
@@ -13,7 +13,7 @@ use series::PriceSeries;
 fn write_doubles(a: &PriceSeries, b: &PriceSeries, out: &mut [u32])
     requires { length out.old ≤ 31 }
     ensures days { out.new ≡ doubled (daily a.now) (daily b.now) (length out.old) }
-    ensures limit { All (λ x. x ≤ 20000000) out.new }
+    ensures limit { AllByRecursion (λ x. x ≤ 20000000) out.new }
 {
     for (i, x) in out.iter_mut().enumerate() {
         let day = i as u8 + 1;
@@ -24,7 +24,7 @@ fn write_doubles(a: &PriceSeries, b: &PriceSeries, out: &mut [u32])
 /// The sum of the five doubles that come first.
 fn five<O: Order>(doubles: &[u32]) -> u64
     requires many { 5 ≤ length doubles.now }
-    requires limit { All (λ x. x ≤ 20000000) doubles.now }
+    requires limit { AllByRecursion (λ x. x ≤ 20000000) doubles.now }
     ensures value { result ≡ sum (take 5 (sorted O.Order.upto doubles.now)) }
     ensures bound { result ≤ 100000000 }
 {
@@ -37,7 +37,7 @@ fn five<O: Order>(doubles: &[u32]) -> u64
 /// The double that comes first.
 fn one<O: Order>(doubles: &[u32]) -> u32
     requires many { 5 ≤ length doubles.now }
-    requires limit { All (λ x. x ≤ 20000000) doubles.now }
+    requires limit { AllByRecursion (λ x. x ≤ 20000000) doubles.now }
     ensures value { result ≡ slice_index (sorted O.Order.upto doubles.now) 0 }
     ensures bound { result ≤ 20000000 }
 {
@@ -50,7 +50,7 @@ fn one<O: Order>(doubles: &[u32]) -> u32
 /// Low and high, smallest and largest of a month's doubles.
 fn summed(doubles: &[u32]) -> Point
     requires many { 5 ≤ length doubles.now }
-    requires limit { All (λ x. x ≤ 20000000) doubles.now }
+    requires limit { AllByRecursion (λ x. x ≤ 20000000) doubles.now }
     ensures value { result ≡ point_over doubles.now }
     ensures bounds { (result.low ≤ 100000000) × (result.high ≤ 100000000) × (result.smallest ≤ 20000000) × (result.largest ≤ 20000000) }
 {
