@@ -1,10 +1,10 @@
-//! Links the proved library, which `rt staticlib bridge` makes, and the C code that the kit has for it.
+//! Links the proved library, which `rt lib` makes in `crates/bridge`, and the C code that the kit has for it.
 
 use std::env;
 use std::path::{Path, PathBuf};
 use std::process::Command;
 
-/// The kit's folder: `rt doc` prints the path of a page in its `docs/`.
+/// The kit's folder: `rt doc` prints the path of a page that lies in it.
 fn kit() -> PathBuf {
     let answer = Command::new("rt")
         .arg("doc")
@@ -14,7 +14,7 @@ fn kit() -> PathBuf {
     let page = String::from_utf8(answer.stdout).expect("`rt doc` printed no text");
     Path::new(page.trim())
         .ancestors()
-        .nth(2)
+        .nth(1)
         .expect("`rt doc` printed no path of a page")
         .to_path_buf()
 }
@@ -31,6 +31,7 @@ fn link(folder: &Path, name: &str) {
 fn main() {
     let here =
         PathBuf::from(env::var_os("CARGO_MANIFEST_DIR").expect("cargo names the package's folder"));
-    link(&here.join("../target/staticlib"), "bridge");
-    link(&kit().join("lib"), "rattle_c");
+    link(&here.join("../crates/bridge/out"), "bridge");
+    link(&kit().join("c"), "os_c");
+    link(&kit().join("c"), "libc_c");
 }

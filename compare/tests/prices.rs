@@ -18,7 +18,7 @@ fn settle(name: &str, lines: &[String], more: &[&str]) -> (String, String, bool)
     fs::create_dir_all(&folder).unwrap();
     let file = folder.join(name);
     fs::write(&file, format!("month,name,day,price\n{}\n", lines.join("\n"))).unwrap();
-    let answer = Command::new(repository().join("target/bin/settle"))
+    let answer = Command::new(repository().join("crates/settle/out/settle"))
         .args(["prices", "--prices", file.to_str().unwrap()])
         .args(more)
         .output()

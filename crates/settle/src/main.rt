@@ -11,22 +11,22 @@ mod prices_report;
 mod report;
 mod request;
 
-use anyhow::anyhow;
 use arguments::Command;
 use balancing::SelfBalancing;
 use request::{Choice, Request};
-use std::env;
+use std::process::ExitCode;
+use std::{env, io};
 
-fn run_quote(rt: &HostRuntime, request: &Request) -> anyhow::Result<()> {
+fn run_quote(rt: &HostRuntime, request: &Request) -> io::Result<ExitCode> {
     let quote = match request.choice {
         Choice::Monthly(option) => request.statement.quote(&option, &request.prices),
         Choice::SelfBalancing => request.statement.quote(&SelfBalancing, &request.prices),
     };
     report::print_quote(rt, request, &quote)?;
-    Ok(())
+    Ok(ExitCode::SUCCESS)
 }
 
-fn main(rt: HostRuntime) -> anyhow::Result<()> {
+fn main(rt: HostRuntime) -> io::Result<ExitCode> {
     let mut words = Vec::new(rt.alloc());
     for word in env::args(&rt)?.skip(1) {
         words.push(word)?;
@@ -36,15 +36,15 @@ fn main(rt: HostRuntime) -> anyhow::Result<()> {
         Ok(Command::Prices(file, layout)) => prices::run_prices(&rt, file, layout),
         Ok(Command::Help) => {
             help::print_help(&rt)?;
-            Ok(())
+            Ok(ExitCode::SUCCESS)
         }
         Ok(Command::Version) => {
             help::print_version(&rt)?;
-            Ok(())
+            Ok(ExitCode::SUCCESS)
         }
         Err(why) => {
             eprintln!(rt; "settle: {why}")?;
-            Err(anyhow!("the arguments are not right"))
+            Ok(ExitCode::FAILURE)
         }
     }
 }

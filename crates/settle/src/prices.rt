@@ -3,7 +3,7 @@ use crate::month_cards::{Made, month_card};
 use crate::price_file::{Entry, HEADER, read_row};
 use crate::prices_report::print_made;
 use crate::request::Layout;
-use anyhow::anyhow;
+use std::process::ExitCode;
 use std::{fs, io};
 use tariff::Month;
 
@@ -100,29 +100,30 @@ fn print_cards(
     Ok(refused)
 }
 
-/// Reads a price file and prints each month's card with its working; nothing is printed where a row is bad.
-pub(crate) fn run_prices(rt: &HostRuntime, file: &str, layout: Layout) -> anyhow::Result<()> {
+/// Reads a price file and prints each month's card with its working; nothing is printed where a row is bad. What is wrong is told, and
+/// then the answer is a failure.
+pub(crate) fn run_prices(rt: &HostRuntime, file: &str, layout: Layout) -> io::Result<ExitCode> {
     let text = match fs::read_to_string(rt, file) {
         Ok(text) => text,
         Err(why) => {
             eprintln!(rt; "settle: {file}: {why}")?;
-            return Err(anyhow!("the price file cannot be read"));
+            return Ok(ExitCode::FAILURE);
         }
     };
     if !has_header(text.as_str()) {
         eprintln!(rt; "settle: {file}:1: the first line is not '{HEADER}'")?;
-        return Err(anyhow!("the price file has no header"));
+        return Ok(ExitCode::FAILURE);
     }
     let mut entries = Vec::new(rt.alloc());
     let mut made = Vec::new(rt.alloc());
     if read_rows(rt, file, text.as_str(), &mut entries)? > 0 {
-        return Err(anyhow!("the price file has bad rows"));
+        return Ok(ExitCode::FAILURE);
     }
     if make_cards(rt, file, entries.as_slice(), &mut made)? > 0 {
-        return Err(anyhow!("the price file has months without a card"));
+        return Ok(ExitCode::FAILURE);
     }
     if print_cards(rt, file, layout, made.as_slice())? > 0 {
-        return Err(anyhow!("a card was refused"));
+        return Ok(ExitCode::FAILURE);
     }
-    Ok(())
+    Ok(ExitCode::SUCCESS)
 }

@@ -8,7 +8,6 @@ mod february;
 mod march;
 mod prices;
 
-use anyhow::anyhow;
 use balancing::{Monthly, SelfBalancing, Tolerance};
 use book::Book;
 use cards::Card;
@@ -17,6 +16,7 @@ use prices::{Cards, print_cards};
 use register::Register;
 use report::{Journal, blank_line, blank_trade};
 use std::io;
+use std::process::ExitCode;
 use tariff::Fault;
 
 const INTRODUCTION: &str = "A balancing book over two months
@@ -24,9 +24,9 @@ const INTRODUCTION: &str = "A balancing book over two months
   each call is followed by its answer; quantities are in Dth, and over-delivery is positive";
 
 /// Says why the story cannot begin.
-fn refuse(rt: &HostRuntime, fault: Fault) -> anyhow::Result<()> {
+fn refuse(rt: &HostRuntime, fault: Fault) -> io::Result<ExitCode> {
     eprintln!(rt; "settle: {fault}")?;
-    Err(anyhow!("the story cannot begin"))
+    Ok(ExitCode::FAILURE)
 }
 
 /// The story over an empty book.
@@ -52,7 +52,7 @@ fn tell_on(rt: &HostRuntime, book: Book<Monthly, SelfBalancing>, cards: &Cards) 
 }
 
 /// Tells the story: every call with its answer, then every bill line, trade, page and sum.
-pub fn tell(rt: &HostRuntime) -> anyhow::Result<()> {
+pub fn tell(rt: &HostRuntime) -> io::Result<ExitCode> {
     let cards = match Cards::new() {
         Ok(cards) => cards,
         Err(fault) => return refuse(rt, fault),
@@ -67,5 +67,5 @@ pub fn tell(rt: &HostRuntime) -> anyhow::Result<()> {
     rt.println(INTRODUCTION)?;
     print_cards(rt, &cards)?;
     tell_on(rt, book, &cards)?;
-    Ok(())
+    Ok(ExitCode::SUCCESS)
 }
