@@ -1,5 +1,5 @@
 -- Worked figures of carryovers, each beside its rule's definition.
-use Rattle.std.specs.Prelude.{ℕ, ◌≡◌, true, false, leb, ℤ, pos, nat_abs, ◌+ℤ◌}
+use Rattle.std.specs.Prelude.{ℕ, ◌≡◌, true, false, nat_le, ℤ, pos, unsigned_abs, ◌+ℤ◌}
 use Rattle.tariff.specs.Faults.{refused, book_layer}
 use Rattle.tariff.specs.declared.month.Month.{Month}
 use Rattle.balancing.specs.Rules.{Rules}
@@ -29,7 +29,7 @@ pub record CarryoverFigures : Type 0 where
   pub a_twelfth_moves_on : (r s k : ℤ) (x : Parts) →
       ((settled_gas false (gas r s (under 25) (pos 0) k) x).carried ≡ (k +ℤ under 2) +ℤ x.kept) × ((settled_gas false (gas r s (under 25) (pos 0) k) x).carryover ≡ under 23)
   pub small_rest_is_cleared : (r s k : ℤ) (x : Parts) →
-      (leb large_carryover (nat_abs (rest_of_carryover (gas r s (pos 0) (pos 5453) k))) ≡ false)
+      (nat_le large_carryover (unsigned_abs (rest_of_carryover (gas r s (pos 0) (pos 5453) k))) ≡ false)
       × ((settled_gas true (gas r s (pos 0) (pos 5453) k) x).carried ≡ (k +ℤ pos 5453) +ℤ x.kept)
       × ((settled_gas true (gas r s (pos 0) (pos 5453) k) x).carryover ≡ pos 0)
   pub large_rest_is_refused : (o : Rules) (t : Terms) (n : Month) (r s k : ℤ) (e : Election) (m : Basis) (d : Posted) (b : Basis) (a room : ℕ) →

@@ -3,7 +3,7 @@ use Rattle.std.specs.Prelude.{◌≡◌, ℕ, zero, suc, List, map, take, ℤ, p
 use Rattle.tally.specs.Tallies.{Laid, Tally}
 use Rattle.tally.specs.Limits.{Fits}
 use Rattle.tally.specs.declared.numbers.Numbers.{Numbers}
-use Rattle.tally.specs.declared.offers.Laid.{Laid as Kept-offer}
+use Rattle.tally.specs.declared.offers.Laid.{Laid as KeptOffer}
 use Rattle.tally.specs.declared.offers.Offers.{Offers}
 use Rattle.tally.specs.declared.tally.Tally.{Tally as Running}
 use Rattle.tally.specs.declared.uncounted.Uncounted.{Uncounted}
@@ -12,7 +12,7 @@ use Rattle.tally.specs.declared.uncounted.Uncounted.{Uncounted}
 abbrev pub numbers_of : Numbers → ℕ → ℤ
 numbers_of n a = slice_index_or n.held a (pos 0)
 
-abbrev pub laid_of : Kept-offer → Laid
+abbrev pub laid_of : KeptOffer → Laid
 laid_of o = record { giver = o.giver; quantity = o.quantity; stands = o.stands }
 
 -- the offers that were laid since the last closing; what lies past them means nothing

@@ -3,7 +3,7 @@ use Rattle.std.specs.Prelude.{◌≡◌, ℕ, false, cond, List, ℤ, pos, neg_�
 use Rattle.tally.specs.Tallies.{Laid, Tally, added, emptied, spent}
 use Rattle.tally.specs.Limits.{Fits}
 use Rattle.tally.specs.Meanings.{tally_of}
-use Rattle.tally.specs.declared.offers.Laid.{Laid as Kept-offer}
+use Rattle.tally.specs.declared.offers.Laid.{Laid as KeptOffer}
 use Rattle.tally.specs.declared.tally.Tally.{Tally as Running}
 use Rattle.tally.specs.declared.uncounted.Uncounted.{Uncounted}
 
@@ -12,7 +12,7 @@ abbrev pub placed : ℕ → ℤ → (ℕ → ℤ) → ℕ → ℤ
 placed a z n b = cond (b == a) z (n b)
 
 -- an offer that no longer stands
-abbrev pub struck : Kept-offer → Kept-offer
+abbrev pub struck : KeptOffer → KeptOffer
 struck o = record { giver = o.giver; quantity = o.quantity; stands = false }
 
 -- nothing left for the account a, and the offers as they were
