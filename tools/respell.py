@@ -6,7 +6,7 @@ usage: python3 tools/respell.py [--dry] [ROOT]
 Run once, right after the kit's port.py. It looks for names with a dash that an .antt file of specs/ or proofs/ declares (definitions, lemmas, records and their
 fields), leaves those that Rattle makes itself (goals, invariants), and writes the new spelling wherever such a name stands: in .antt files outside comments, in .rt files
 only in ghost items and clauses. Strings, comments, functions and everything else of src/ keep their text. `must-fail/*.edit` are left for the hand.
-It stops where two names would fall together, or where a new name is already in use.
+It says where two names would fall together, or where a new name stands already, and goes on: each such line is for the hand to look at.
 """
 import collections
 import os

@@ -68,8 +68,8 @@ pub(crate) fn look(desk: &Desk<'_>, word: &str, place: usize, wanted: &str) -> R
     match word {
         "gas" => is(wanted, 0, desk.book.gas()),
         "month" => month_at(&desk.book.running_month(), wanted, 0),
-        "bills" => { same(desk.bills.len() as i128, place as i128) },
-        "trades" => { same(desk.trades.len() as i128, place as i128) },
+        "bills" => same(desk.bills.len() as i128, place as i128),
+        "trades" => same(desk.trades.len() as i128, place as i128),
         "bill" => match desk.bills.read(place) {
             Some(line) => line_is(&line, wanted),
             None => Err(Fail::new("no such line")),

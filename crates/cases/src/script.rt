@@ -17,7 +17,7 @@ fn fault_is(fault: &Fault, wanted: &str) -> Result<(), Fail> {
 /// `done`, `place P`, or `refused ROW LAYER ACCOUNT`.
 fn answer_is(answer: &Result<Option<u8>, Fault>, wanted: &str) -> Result<(), Fail> {
     match answer {
-        Ok(None) => { must(wanted == "done", "performed") },
+        Ok(None) => must(wanted == "done", "performed, without a place"),
         Ok(Some(place)) => match wanted.strip_prefix("place ") {
             Some(text) => is(text, 0, *place as i64),
             None => Err(Fail::new("performed, with a place")),

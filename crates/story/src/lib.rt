@@ -25,7 +25,7 @@ const INTRODUCTION: &str = "A balancing book over two months
 
 /// Says why the story cannot begin.
 fn refuse(rt: &HostRuntime, fault: Fault) -> io::Result<ExitCode> {
-    eprintln!(rt; "settle: {fault}")?;
+    eprintln!(rt; "storyteller: {fault}")?;
     Ok(ExitCode::FAILURE)
 }
 
