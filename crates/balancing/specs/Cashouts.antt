@@ -1,7 +1,6 @@
 -- The cashout of the parts of an imbalance that are not kept.
-use Rattle.std.specs.Prelude.{ℕ, zero, suc, Bool, true, false, cond, ℤ, pos, negsuc, ◌+ℤ◌, Some, None, Option, int_lt}
-use Rattle.tariff.specs.Bills.{charge}
-use Rattle.tariff.specs.declared.bill.BillKind.{BillKind}
+use Rattle.std.specs.Prelude.{ℕ, cond, ℤ, pos, ◌+ℤ◌, Some, None, Option, int_lt}
+use Rattle.tariff.specs.Bills.{tier_line}
 use Rattle.tariff.specs.declared.bill.BillKind.TheVariants.{TierOne, TierTwo}
 use Rattle.tariff.specs.declared.bill.Charge.{Charge}
 use Rattle.balancing.specs.declared.cashout.Cashout.{Cashout}
@@ -11,16 +10,6 @@ use Rattle.balancing.specs.declared.option.Parts.{Parts}
 -- gas delivered over the usage has one price, gas delivered under it another
 abbrev pub tier_price : ℤ → ℕ → ℕ → ℕ
 tier_price q over under = cond (int_lt q (pos 0)) under over
-
--- whether a quantity is 0
-abbrev pub no_gas : ℤ → Bool
-no_gas (pos zero) = true
-no_gas (pos (suc n)) = false
-no_gas (negsuc n) = false
-
--- the bill line of a tier; a tier with no gas has none
-abbrev pub tier_line : BillKind → ℤ → ℕ → Option Charge
-tier_line k q p = cond (no_gas q) None (Some (charge k q p))
 
 -- the cents of a line that may be absent
 abbrev pub cents_of : Option Charge → ℤ

@@ -1,8 +1,12 @@
 -- What a balancing option means, and the laws that every option keeps.
-use Rattle.std.specs.Prelude.{◌≡◌, ℕ, suc, ◌+◌, ◌-◌, ◌≤◌, min, Bool, ℤ, pos, negsuc, ◌+ℤ◌, neg_ℤ, ◌≤ℤ◌, unsigned_abs}
+use Rattle.std.specs.Prelude.{◌≡◌, ℕ, suc, ◌+◌, ◌-◌, ◌≤◌, min, Bool, cond, ℤ, pos, negsuc, ◌+ℤ◌, neg_ℤ, ◌≤ℤ◌, None, Ok, Err, Result, ◌==◌, nat_lt, unsigned_abs}
 use Rattle.balancing.specs.declared.option.Parts.{Parts}
 use Rattle.balancing.specs.declared.option.Excess.{Excess}
 use Rattle.balancing.specs.declared.option.FlowOrder.{FlowOrder}
+use Rattle.balancing.specs.declared.option.FlowOrder.TheVariants.{Absent, InEffect}
+use Rattle.tariff.specs.Faults.{by_book}
+use Rattle.tariff.specs.declared.fault.Fault.{Fault}
+use Rattle.tariff.specs.declared.fault.Row.TheVariants.{Field}
 
 -- what an option means: its mark, whether its accounts earn the credit, and two functions.
 -- `split` takes a statement's usage, monthly quantity and imbalance.
@@ -36,3 +40,11 @@ pub record Laws (o : Rules) : Type 0 where
 abbrev pub held_within : ℕ → ℤ → ℤ
 held_within b (pos n) = pos (min n b)
 held_within b (negsuc n) = neg_ℤ (pos (min (suc n) b))
+
+-- flag 1 is a flow order, 0 is none; any other number is refused before it is looked up
+abbrev pub order_of : ℕ → FlowOrder
+order_of n = cond (n == 1) InEffect Absent
+
+-- the flow order with a flag, or the refusal of row 1
+abbrev pub order_flagged : ℕ → Result FlowOrder Fault
+order_flagged n = cond (nat_lt 1 n) (Err (by_book Field None)) (Ok (order_of n))

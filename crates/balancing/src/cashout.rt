@@ -1,6 +1,6 @@
 // Cashout of the parts of an imbalance that are not kept.
-ghost use Rattle.std.specs.Prelude.{◌≡◌, ◌^◌, ◌≤◌, ◌+ℤ◌, unsigned_abs};
-ghost use Rattle.balancing.specs.Cashouts.{tier_price, tier_line, cents_of, tier_one_line, tier_two_line, cashout};
+ghost use Rattle.std.specs.Prelude.{◌≡◌, ◌^◌, ◌≤◌, ◌+ℤ◌, IfSome, unsigned_abs};
+ghost use Rattle.balancing.specs.Cashouts.{tier_price, cents_of, cashout};
 
 use crate::option::Parts;
 use tariff::{BillKind, Cents, Charge};
@@ -29,31 +29,18 @@ fn tier_price(quantity: i32, over: u32, under: u32) -> u32
     if quantity < 0 { under } else { over }
 }
 
-/// The bill line of a tier, if it has gas.
-fn tier_line(kind: BillKind, quantity: i32, price: u32) -> Option<Charge>
-    ensures value { result ≡ tier_line kind quantity price }
-    ensures bound { unsigned_abs (cents_of result) ≤ 2 ^ 64 }
-{
-    if quantity == 0 {
-        return None;
-    }
-    Some(Charge::new(kind, quantity as i64, price))
-}
-
 /// The cents of a line that may be absent.
 fn cents(line: &Option<Charge>) -> i128
     ensures { result ≡ cents_of line.now }
 {
-    match line {
-        Some(charge) => charge.cents.count,
-        None => 0,
-    }
+    line.map_or(0, |charge| charge.cents.count)
 }
 
-/// The cents of two lines.
-fn sum(one: &Option<Charge>, two: &Option<Charge>) -> Cents
-    requires one_bound { unsigned_abs (cents_of one.now) ≤ 2 ^ 64 }
-    requires two_bound { unsigned_abs (cents_of two.now) ≤ 2 ^ 64 }
+// Bounds in a `requires`, and no invariant of `Charge`: that would ask more of whoever makes one.
+/// The cents of two lines together.
+fn total(one: &Option<Charge>, two: &Option<Charge>) -> Cents
+    requires one { IfSome one.now (λ c. unsigned_abs c.cents.count ≤ 2 ^ 82) }
+    requires two { IfSome two.now (λ c. unsigned_abs c.cents.count ≤ 2 ^ 82) }
     ensures { result.count ≡ cents_of one.now +ℤ cents_of two.now }
 {
     Cents {
@@ -62,35 +49,32 @@ fn sum(one: &Option<Charge>, two: &Option<Charge>) -> Cents
 }
 
 impl TierPrices {
-    fn tier_one_line(&self, parts: &Parts) -> Option<Charge>
-        ensures value { result ≡ tier_one_line self.now parts.now }
-        ensures bound { unsigned_abs (cents_of result) ≤ 2 ^ 64 }
+    /// The price of a quantity in Tier I.
+    pub fn tier_one_price(&self, quantity: i32) -> u32
+        ensures { result ≡ tier_price quantity self.now.one_over self.now.one_under }
     {
-        tier_line(
-            BillKind::TierOne,
-            parts.tier_one,
-            tier_price(parts.tier_one, self.one_over, self.one_under),
-        )
+        tier_price(quantity, self.one_over, self.one_under)
     }
 
-    fn tier_two_line(&self, parts: &Parts) -> Option<Charge>
-        ensures value { result ≡ tier_two_line self.now parts.now }
-        ensures bound { unsigned_abs (cents_of result) ≤ 2 ^ 64 }
+    /// The price of a quantity in Tier II.
+    pub fn tier_two_price(&self, quantity: i32) -> u32
+        ensures { result ≡ tier_price quantity self.now.two_over self.now.two_under }
     {
-        tier_line(
-            BillKind::TierTwo,
-            parts.tier_two,
-            tier_price(parts.tier_two, self.two_over, self.two_under),
-        )
+        tier_price(quantity, self.two_over, self.two_under)
     }
 
     /// The bill lines of both tiers: each tier's own part, at that tier's price.
     pub fn cash_out(&self, parts: &Parts) -> Cashout
         ensures { result ≡ cashout self.now parts.now }
     {
-        let tier_one = self.tier_one_line(parts);
-        let tier_two = self.tier_two_line(parts);
-        let total = sum(&tier_one, &tier_two);
+        let Parts {
+            tier_one: one,
+            tier_two: two,
+            ..
+        } = *parts;
+        let tier_one = Charge::for_gas(BillKind::TierOne, i64::from(one), self.tier_one_price(one));
+        let tier_two = Charge::for_gas(BillKind::TierTwo, i64::from(two), self.tier_two_price(two));
+        let total = total(&tier_one, &tier_two);
         Cashout {
             tier_one,
             tier_two,

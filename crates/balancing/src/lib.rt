@@ -8,5 +8,5 @@ mod self_balancing;
 
 pub use cashout::{Cashout, TierPrices};
 pub use monthly::{Monthly, Tolerance};
-pub use option::{BalancingOption, Excess, FlowOrder, Parts};
+pub use option::{BalancingOption, Excess, FlowOrder, GasDay, Parts, Statement};
 pub use self_balancing::SelfBalancing;

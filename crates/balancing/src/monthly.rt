@@ -5,26 +5,37 @@ ghost use Rattle.balancing.specs.Options.{monthly, monthly_split, split_in_bands
 ghost use Rattle.tariff.specs.Faults.{answer};
 ghost use Rattle.balancing.specs.Splits.{monthly_laws};
 
-use crate::option::{BalancingOption, Excess, FlowOrder, Parts, held_within, rest};
-use tariff::{Fault, Layer, NO_ACCOUNT, Row};
+use crate::option::{BalancingOption, Excess, GasDay, Parts, Statement, held_within, rest};
+use tariff::{Fault, Row};
 
 /// The share of the usage that is kept, in percent.
 #[derive(Clone, Copy)]
 pub enum Tolerance {
-    Three,
-    Four,
-    Five,
+    Three = 3,
+    Four = 4,
+    Five = 5,
+}
+
+impl TryFrom<u8> for Tolerance {
+    type Error = Fault;
+
+    ghost try_from_gives = { λ percent r. answer (λ t. percentage t) r ≡ tolerance_answer percent };
+
+    fn try_from(percent: u8) -> Result<Tolerance, Fault> {
+        match percent {
+            3 => Ok(Tolerance::Three),
+            4 => Ok(Tolerance::Four),
+            5 => Ok(Tolerance::Five),
+            _ => Err(Fault::by_book(Row::Field, None)),
+        }
+    }
 }
 
 impl Tolerance {
     pub fn percent(&self) -> u8
         ensures { result ≡ percentage self.now }
     {
-        match self {
-            Tolerance::Three => 3,
-            Tolerance::Four => 4,
-            Tolerance::Five => 5,
-        }
+        *self as u8
     }
 
     /// The tolerance of a usage, in whole Dth.
@@ -32,12 +43,7 @@ impl Tolerance {
         ensures value { result ≡ usage * percentage self.now / 100 }
         ensures below_a_tenth { result ≤ usage / 10 }
     {
-        let usage = usage as u64;
-        match self {
-            Tolerance::Three => (usage * 3 / 100) as u32,
-            Tolerance::Four => (usage * 4 / 100) as u32,
-            Tolerance::Five => (usage * 5 / 100) as u32,
-        }
+        (u64::from(usage) * u64::from(self.percent()) / 100) as u32
     }
 }
 
@@ -68,22 +74,9 @@ impl Monthly {
     pub fn new(percent: u8) -> Result<Monthly, Fault>
         ensures { answer (λ m. percentage m.tolerance) result ≡ tolerance_answer percent }
     {
-        match percent {
-            3 => Ok(Monthly {
-                tolerance: Tolerance::Three,
-            }),
-            4 => Ok(Monthly {
-                tolerance: Tolerance::Four,
-            }),
-            5 => Ok(Monthly {
-                tolerance: Tolerance::Five,
-            }),
-            _ => Err(Fault {
-                row: Row::Field,
-                layer: Layer::Book,
-                account: NO_ACCOUNT,
-            }),
-        }
+        Ok(Monthly {
+            tolerance: Tolerance::try_from(percent)?,
+        })
     }
 }
 
@@ -108,20 +101,14 @@ impl BalancingOption for Monthly {
         Self::EARNS_CREDIT
     }
 
-    fn split(&self, usage: u32, monthly_quantity: u32, imbalance: i32) -> Parts
-        ensures { result ≡ monthly_split (percentage self.now.tolerance) usage imbalance }
+    fn split(&self, statement: &Statement) -> Parts
+        ensures { result ≡ monthly_split (percentage self.now.tolerance) statement.now.usage statement.now.imbalance }
     {
-        split_in_bands(self.tolerance.band(usage), usage / 10, imbalance)
+        let usage = statement.usage;
+        split_in_bands(self.tolerance.band(usage), usage / 10, statement.imbalance)
     }
 
-    fn excess(
-        &self,
-        receipts: u32,
-        usage: u32,
-        order: FlowOrder,
-        monthly_quantity: u32,
-        accumulated: i32,
-    ) -> Excess
+    fn excess(&self, day: &GasDay) -> Excess
         ensures { result ≡ no_excess }
     {
         Excess {

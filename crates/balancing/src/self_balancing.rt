@@ -4,7 +4,9 @@ ghost use Rattle.balancing.specs.Rules.{Rules};
 ghost use Rattle.balancing.specs.Options.{self_balancing, self_balancing_split, self_balancing_excess};
 ghost use Rattle.std.proofs.Common.{rules};
 
-use crate::option::{BalancingOption, Excess, FlowOrder, Parts, held_within, rest};
+use crate::option::{
+    BalancingOption, Excess, FlowOrder, GasDay, Parts, Statement, held_within, rest,
+};
 
 /// Daily balancing within ten percent of the day's usage and one percent of the monthly quantity.
 #[derive(Clone, Copy)]
@@ -31,10 +33,11 @@ impl BalancingOption for SelfBalancing {
         Self::EARNS_CREDIT
     }
 
-    fn split(&self, usage: u32, monthly_quantity: u32, imbalance: i32) -> Parts
-        ensures { result ≡ self_balancing_split monthly_quantity imbalance }
+    fn split(&self, statement: &Statement) -> Parts
+        ensures { result ≡ self_balancing_split statement.now.monthly_quantity statement.now.imbalance }
     {
-        let kept = held_within(monthly_quantity / 100, imbalance);
+        let imbalance = statement.imbalance;
+        let kept = held_within(statement.monthly_quantity / 100, imbalance);
         Parts {
             kept,
             tier_one: 0,
@@ -42,25 +45,22 @@ impl BalancingOption for SelfBalancing {
         }
     }
 
-    fn excess(
-        &self,
-        receipts: u32,
-        usage: u32,
-        order: FlowOrder,
-        monthly_quantity: u32,
-        accumulated: i32,
-    ) -> Excess
-        ensures { result ≡ self_balancing_excess receipts usage order monthly_quantity accumulated }
+    fn excess(&self, day: &GasDay) -> Excess
+        ensures { result ≡ self_balancing_excess day.now.receipts day.now.usage day.now.order day.now.monthly_quantity day.now.accumulated }
     {
-        let daily = match order {
-            FlowOrder::Absent => receipts.abs_diff(usage).saturating_sub(usage / 10),
+        let daily = match day.order {
+            FlowOrder::Absent => day
+                .receipts
+                .abs_diff(day.usage)
+                .saturating_sub(day.usage / 10),
             FlowOrder::InEffect => 0,
         };
         Excess {
             daily,
-            accumulated: accumulated
+            accumulated: day
+                .accumulated
                 .unsigned_abs()
-                .saturating_sub(monthly_quantity / 100),
+                .saturating_sub(day.monthly_quantity / 100),
         }
     }
 }

@@ -11,12 +11,12 @@ ghost use Rattle.runs.specs.Law.{GasOnAllPages, GasOnEachPage, OffersCountOnce, 
 ghost use Rattle.book.specs.Books.{starting, with_ledger};
 
 use balancing::BalancingOption;
-use cards::Card;
+use cards::{AtHand, Card};
 use ledger::Ledger;
-use page::Page;
-use records::{BillLine, Call, Trade, refusal};
+use page::{Options, Page};
+use records::{BillLine, Call, Trade};
 use register::Register;
-use tariff::{Fault, Month, NO_ACCOUNT, Row};
+use tariff::{Fault, Month, Row};
 
 /// A book of up to 64 balancing agents, each of which elects the first or the second option.
 #[derive(Drop)]
@@ -26,7 +26,16 @@ pub struct Book<A: BalancingOption, B: BalancingOption> {
     ledger: Ledger,
 }
 
+/// Both options, lent together.
+fn lent<'a, A, B>(first: &'a A, second: &'a B) -> Options<'a, A, B>
+    ensures first { result.first.now ≡ first.now }
+    ensures second { result.second.now ≡ second.now }
+{
+    Options { first, second }
+}
+
 /// The law of the book, which holds over every list of calls; it has no code.
+// Both options apart, as a new book is given them: the law speaks of what they mean, and nothing is asked of them.
 fn law_stands<A: BalancingOption, B: BalancingOption>(first: &A, second: &B)
     ensures gas_on_all_pages { (m : Month) → GasOnAllPages (A.BalancingOption.rules first.now) (B.BalancingOption.rules second.now) m }
     ensures gas_on_each_page { (m : Month) → GasOnEachPage (A.BalancingOption.rules first.now) (B.BalancingOption.rules second.now) m }
@@ -37,6 +46,7 @@ fn law_stands<A: BalancingOption, B: BalancingOption>(first: &A, second: &B)
 
 impl<A: BalancingOption + Drop, B: BalancingOption + Drop> Book<A, B> {
     /// An empty book in a running month from February 2000 to December 2099.
+    // The options and the month by their parts: what names no month is refused here, as row 1 of the book.
     pub fn new(first: A, second: B, year: u16, month: u8) -> Result<Self, Fault>
         ensures answer { answer (λ b. b) result ≡ starting first second year month }
         ensures gas_on_all_pages { (m : Month) → GasOnAllPages (A.BalancingOption.rules first) (B.BalancingOption.rules second) m }
@@ -46,12 +56,9 @@ impl<A: BalancingOption + Drop, B: BalancingOption + Drop> Book<A, B> {
         ensures half_a_cent_a_line { (m : Month) → HalfACentALine (A.BalancingOption.rules first) (B.BalancingOption.rules second) m }
     {
         law_stands(&first, &second);
-        let Some(month) = Month::new(year, month) else {
-            return Err(refusal(Row::Field, NO_ACCOUNT));
-        };
-        let Some(_) = month.previous() else {
-            return Err(refusal(Row::Field, NO_ACCOUNT));
-        };
+        let month = Month::new(year, month)
+            .filter(|month| month.previous().is_some())
+            .ok_or(Fault::by_book(Row::Field, None))?;
         Ok(Book {
             first,
             second,
@@ -60,6 +67,8 @@ impl<A: BalancingOption + Drop, B: BalancingOption + Drop> Book<A, B> {
     }
 }
 
+// Kinds, elections, components and flags come in as numbers: one outside its values is refused under row 1, and a narrower type would
+// ask more of callers.
 impl<A: BalancingOption, B: BalancingOption> Book<A, B> {
     /// The running month.
     pub fn running_month(&self) -> Month
@@ -89,12 +98,12 @@ impl<A: BalancingOption, B: BalancingOption> Book<A, B> {
         self.ledger.gas()
     }
 
-    /// What a call, if performed, makes due at the prices of a card for settling and of one for closing, in ten-thousandths of a cent.
-    pub fn due_by<C: Card, D: Card>(&self, call: &Call, settling: &C, closing: &D) -> i128
-        ensures { result ≡ due_by (A.BalancingOption.rules self.now.first) (B.BalancingOption.rules self.now.second) self.now.ledger call.now (C.Card.meaning settling.now) (D.Card.meaning closing.now) }
+    /// What a call, if performed, makes due at the prices of the cards at hand for settling and for closing, in ten-thousandths of a cent.
+    pub fn due_by<C: Card, D: Card>(&self, call: &Call, cards: &AtHand<C, D>) -> i128
+        ensures { result ≡ due_by (A.BalancingOption.rules self.now.first) (B.BalancingOption.rules self.now.second) self.now.ledger call.now (C.Card.meaning cards.now.settling) (D.Card.meaning cards.now.closing) }
     {
         self.ledger
-            .due_by(&self.first, &self.second, call, settling, closing)
+            .due_by(&lent(&self.first, &self.second), call, cards)
     }
 
     /// Opens an account: its kind is 1 (noncore) or 2 (core group), its election 1 (the first option) or 2 (the second).
@@ -132,8 +141,7 @@ impl<A: BalancingOption, B: BalancingOption> Book<A, B> {
         ensures book_after { self.new ≡ with_ledger self.old (posting (A.BalancingOption.rules self.old.first) (B.BalancingOption.rules self.old.second) self.old.ledger account day order receipts usage).ledger }
     {
         self.ledger.post(
-            &self.first,
-            &self.second,
+            &lent(&self.first, &self.second),
             account,
             day,
             order,
@@ -207,8 +215,8 @@ impl<A: BalancingOption, B: BalancingOption> Book<A, B> {
         ensures book_after { self.new ≡ with_ledger self.old (settling (A.BalancingOption.rules self.old.first) (B.BalancingOption.rules self.old.second) (C.Card.meaning card.now) self.old.ledger account clear (length (free bills.old))).ledger }
         ensures bills_after { Wrote bills.old (settling (A.BalancingOption.rules self.old.first) (B.BalancingOption.rules self.old.second) (C.Card.meaning card.now) self.old.ledger account clear (length (free bills.old))).bills bills.new }
     {
-        self.ledger
-            .settle(&self.first, &self.second, card, account, clear, bills)
+        let options = lent(&self.first, &self.second);
+        self.ledger.settle(&options, card, account, clear, bills)
     }
 
     /// Closes the running month with a card of it.
@@ -221,6 +229,7 @@ impl<A: BalancingOption, B: BalancingOption> Book<A, B> {
         ensures book_after { self.new ≡ with_ledger self.old (closing (A.BalancingOption.rules self.old.first) (B.BalancingOption.rules self.old.second) (C.Card.meaning card.now) self.old.ledger (length (free bills.old))).ledger }
         ensures bills_after { Wrote bills.old (closing (A.BalancingOption.rules self.old.first) (B.BalancingOption.rules self.old.second) (C.Card.meaning card.now) self.old.ledger (length (free bills.old))).bills bills.new }
     {
-        self.ledger.close(&self.first, &self.second, card, bills)
+        self.ledger
+            .close(&lent(&self.first, &self.second), card, bills)
     }
 }

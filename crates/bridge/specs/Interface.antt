@@ -57,10 +57,6 @@ abbrev pub order_of : Bool → FlowOrder
 order_of true = InEffect
 order_of false = Absent
 
--- r is the kind that has the number n; no kind has a number but 1 to 5
-abbrev pub KindNumbered : ℕ → Option BillKind → Type 0
-KindNumbered n r = ((k : BillKind) → kind_number k ≡ n → r ≡ Some k) × (from_to 1 5 n ≡ false → r ≡ None)
-
 -- r is the cents billed for a quantity q at a price p under the kind that has the number n;
 -- where no kind has it, r is the least signed number of 64 bits
 abbrev pub Billed : ℕ → ℤ → ℕ → ℤ → Type 0

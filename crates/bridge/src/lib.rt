@@ -1,5 +1,6 @@
 // The rules behind a C interface, so that code in another language can be held against them.
 // Every number of its type may be passed: what is no month, no tolerance, no kind or no amount has an answer of its own.
+// C has neither `Option` nor `Result` nor an enum of ours: numbers, flags and values of their own stand in for them here.
 #![tactic(auto)]
 
 ghost use Rattle.std.specs.Prelude.{◌≡◌, ◌^◌, ◌<◌, IfSome, unsigned_abs};
@@ -7,12 +8,15 @@ ghost use Rattle.tariff.specs.Bills.{charge, kind_number};
 ghost use Rattle.tariff.specs.Months.{named};
 ghost use Rattle.balancing.specs.Options.{tolerance_answer, self_balancing_split, self_balancing_excess};
 ghost use Rattle.decimal.specs.Amounts.{places, amount};
-ghost use Rattle.bridge.specs.Interface.{month_days, month_after, month_before, month_code, laid_out, excess_laid_out, accepted, monthly_parts, order_of, KindNumbered, Billed, decimals_of, amount_read};
+ghost use Rattle.bridge.specs.Interface.{month_days, month_after, month_before, month_code, laid_out, excess_laid_out, accepted, monthly_parts, order_of, Billed, decimals_of, amount_read};
 
-use balancing::{BalancingOption, Excess, FlowOrder, Monthly, Parts, SelfBalancing};
+use balancing::{
+    BalancingOption, Excess, FlowOrder, GasDay, Monthly, Parts, SelfBalancing, Statement,
+};
 use decimal::{Decimals, read_amount};
 use tariff::{BillKind, Charge, Month};
 
+// C needs a layout of its own: `Parts` and `Excess` have none that it may rely on.
 /// The parts of an imbalance (Dth).
 #[derive(Clone, Copy)]
 #[repr(C)]
@@ -35,17 +39,15 @@ pub struct DayExcess {
 pub extern "C" fn gbal_month_days(year: u16, number: u8) -> u8
     ensures { result ≡ month_days (named year number) }
 {
-    match Month::new(year, number) {
-        Some(month) => month.days(),
-        None => 0,
-    }
+    Month::new(year, number).map_or(0, |month| month.days())
 }
 
+// C has no Option: its months are a number, and 0 is none.
 fn month_code(month: Option<Month>) -> u32
     ensures { result ≡ month_code month }
 {
     match month {
-        Some(month) => month.year() as u32 * 100 + month.number() as u32,
+        Some(month) => u32::from(month.year()) * 100 + u32::from(month.number()),
         None => 0,
     }
 }
@@ -55,10 +57,7 @@ fn month_code(month: Option<Month>) -> u32
 pub extern "C" fn gbal_next_month(year: u16, number: u8) -> u32
     ensures { result ≡ month_code (month_after (named year number)) }
 {
-    match Month::new(year, number) {
-        Some(month) => month_code(month.next()),
-        None => 0,
-    }
+    month_code(Month::new(year, number).and_then(|month| month.next()))
 }
 
 /// The month before, as `year * 100 + number`; 0 where there is none.
@@ -66,19 +65,18 @@ pub extern "C" fn gbal_next_month(year: u16, number: u8) -> u32
 pub extern "C" fn gbal_previous_month(year: u16, number: u8) -> u32
     ensures { result ≡ month_code (month_before (named year number)) }
 {
-    match Month::new(year, number) {
-        Some(month) => month_code(month.previous()),
-        None => 0,
-    }
+    month_code(Month::new(year, number).and_then(|month| month.previous()))
 }
 
-fn laid_out(parts: Parts) -> SplitParts
-    ensures { result ≡ laid_out parts }
-{
-    SplitParts {
-        kept: parts.kept,
-        tier_one: parts.tier_one,
-        tier_two: parts.tier_two,
+impl From<Parts> for SplitParts {
+    ghost from_gives = { λ parts r. r ≡ laid_out parts };
+
+    fn from(parts: Parts) -> SplitParts {
+        SplitParts {
+            kept: parts.kept,
+            tier_one: parts.tier_one,
+            tier_two: parts.tier_two,
+        }
     }
 }
 
@@ -95,7 +93,11 @@ pub extern "C" fn gbal_monthly_split(
 {
     match Monthly::new(percent) {
         Ok(option) => {
-            *parts = laid_out(option.split(usage, 0, imbalance));
+            *parts = SplitParts::from(option.split(&Statement {
+                usage,
+                monthly_quantity: 0,
+                imbalance,
+            }));
             true
         }
         Err(_) => false,
@@ -111,9 +113,14 @@ pub extern "C" fn gbal_self_balancing_split(
 )
     ensures { parts.new ≡ laid_out (self_balancing_split monthly_quantity imbalance) }
 {
-    *parts = laid_out(SelfBalancing.split(0, monthly_quantity, imbalance));
+    *parts = SplitParts::from(SelfBalancing.split(&Statement {
+        usage: 0,
+        monthly_quantity,
+        imbalance,
+    }));
 }
 
+// C hands a flag; a `From<bool>` would have to stand in the options' own crate, where nothing hands one.
 fn flow_order(in_effect: bool) -> FlowOrder
     ensures { result ≡ order_of in_effect }
 {
@@ -124,12 +131,14 @@ fn flow_order(in_effect: bool) -> FlowOrder
     }
 }
 
-fn excess_laid_out(excess: Excess) -> DayExcess
-    ensures { result ≡ excess_laid_out excess }
-{
-    DayExcess {
-        daily: excess.daily,
-        accumulated: excess.accumulated,
+impl From<Excess> for DayExcess {
+    ghost from_gives = { λ excess r. r ≡ excess_laid_out excess };
+
+    fn from(excess: Excess) -> DayExcess {
+        DayExcess {
+            daily: excess.daily,
+            accumulated: excess.accumulated,
+        }
     }
 }
 
@@ -146,21 +155,13 @@ pub extern "C" fn gbal_self_balancing_excess(
     ensures { excess.new ≡ excess_laid_out (self_balancing_excess receipts usage (order_of order_in_effect) monthly_quantity accumulated) }
 {
     let order = flow_order(order_in_effect);
-    let day = SelfBalancing.excess(receipts, usage, order, monthly_quantity, accumulated);
-    *excess = excess_laid_out(day);
-}
-
-fn kind_numbered(number: u8) -> Option<BillKind>
-    ensures { KindNumbered number result }
-{
-    match number {
-        1 => Some(BillKind::TierOne),
-        2 => Some(BillKind::TierTwo),
-        3 => Some(BillKind::DailyExcess),
-        4 => Some(BillKind::AccumulatedExcess),
-        5 => Some(BillKind::Credit),
-        _ => None,
-    }
+    *excess = DayExcess::from(SelfBalancing.excess(&GasDay {
+        receipts,
+        usage,
+        order,
+        monthly_quantity,
+        accumulated,
+    }));
 }
 
 /// A quantity of 32 bits billed at a card price; its cents fit an `i64`, and are never the least one.
@@ -168,7 +169,7 @@ fn charged(kind: BillKind, quantity: i32, price: u32) -> Charge
     ensures value { result ≡ charge kind quantity price }
     ensures bound { unsigned_abs result.cents.count < 2 ^ 63 }
 {
-    Charge::new(kind, quantity as i64, price)
+    Charge::new(kind, i64::from(quantity), price)
 }
 
 /// The cents billed for a quantity at a card price under the kind with a number from 1 to 5; the least `i64` where no kind has the number.
@@ -177,12 +178,13 @@ pub extern "C" fn gbal_billed_cents(kind: u8, quantity: i32, price: u32) -> i64
     ensures value { Billed kind quantity price result }
     ensures told_apart { (k : BillKind) → kind_number k ≡ kind → unsigned_abs result < 2 ^ 63 }
 {
-    match kind_numbered(kind) {
-        Some(kind) => charged(kind, quantity, price).cents.count as i64,
-        None => i64::MIN,
+    match BillKind::try_from(kind) {
+        Ok(kind) => charged(kind, quantity, price).cents.count as i64,
+        Err(_) => i64::MIN,
     }
 }
 
+// C hands a flag; no other caller has one.
 fn decimals_of(six: bool) -> Decimals
     ensures { result ≡ decimals_of six }
 {

@@ -1,1 +1,2 @@
 pub mod Monthly
+pub mod Small

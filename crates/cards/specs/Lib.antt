@@ -1,3 +1,4 @@
+pub mod Doubles
 pub mod Fixed
 pub mod Index
 pub mod Limits

@@ -15,3 +15,14 @@ pub trait Card {
 
     ghost within_limits: { (c : Self) → WithinLimits (meaning c) };
 }
+
+/// A borrowed card is a card.
+impl<C: Card> Card for &C {
+    ghost meaning = { λ c. C.Card.meaning c.now };
+
+    fn terms(&self) -> Terms {
+        (**self).terms()
+    }
+
+    ghost within_limits = { λ c. C.Card.within_limits c.now };
+}

@@ -1,5 +1,5 @@
 // The fixed card: its struct, whose prices keep the limit.
-ghost use Rattle.std.specs.Prelude.{◌≤◌};
+ghost use Rattle.cards.specs.Limits.{TiersWithinLimits};
 
 use balancing::TierPrices;
 use tariff::Month;
@@ -11,5 +11,5 @@ pub mod makes;
 pub struct FixedCard {
     month: Month,
     tiers: TierPrices,
-    ghost limited: { (tiers.one_over ≤ 1500000000) × (tiers.one_under ≤ 1500000000) × (tiers.two_over ≤ 1500000000) × (tiers.two_under ≤ 1500000000) },
+    ghost limited: { TiersWithinLimits tiers },
 }

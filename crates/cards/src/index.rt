@@ -1,9 +1,10 @@
 // The index card, made from published prices: its struct, whose prices keep the limit.
-ghost use Rattle.std.specs.Prelude.{◌≤◌};
+ghost use Rattle.cards.specs.Limits.{WithinLimits};
 
 use crate::index::working::Working;
 use crate::terms::Terms;
 
+mod kept;
 pub mod makes;
 mod points;
 pub mod published;
@@ -15,6 +16,5 @@ pub mod working;
 pub struct IndexCard {
     terms: Terms,
     working: Working,
-    ghost tiers_limited: { (terms.tiers.one_over ≤ 1500000000) × (terms.tiers.one_under ≤ 1500000000) × (terms.tiers.two_over ≤ 1500000000) × (terms.tiers.two_under ≤ 1500000000) },
-    ghost others_limited: { (terms.noncompliance ≤ 1500000000) × (terms.credit ≤ 1500000000) },
+    ghost limited: { WithinLimits terms },
 }

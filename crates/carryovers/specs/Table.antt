@@ -1,12 +1,13 @@
 -- Worked figures of carryovers, each beside its rule's definition.
-use Rattle.std.specs.Prelude.{ℕ, ◌≡◌, true, false, nat_le, ℤ, pos, unsigned_abs, ◌+ℤ◌}
+use Rattle.std.specs.Prelude.{ℕ, ◌≡◌, true, false, nat_le, ℤ, pos, unsigned_abs, ◌+ℤ◌, Some}
 use Rattle.tariff.specs.Faults.{refused, book_layer}
+use Rattle.tariff.specs.Months.{follows}
 use Rattle.tariff.specs.declared.month.Month.{Month}
 use Rattle.balancing.specs.Rules.{Rules}
 use Rattle.balancing.specs.declared.option.Parts.{Parts}
 use Rattle.cards.specs.declared.terms.Terms.{Terms}
 use Rattle.figures.specs.Table.{under}
-use Rattle.page.specs.Settling.{settled_gas, rest_of_carryover, large_carryover, follows, settling_answer}
+use Rattle.page.specs.Settling.{settled_gas, rest_of_carryover, large_carryover, settling_answer}
 use Rattle.records.specs.declared.account.Election.{Election}
 use Rattle.records.specs.declared.account.Kind.TheVariants.{Core}
 use Rattle.records.specs.declared.account.Status.TheVariants.{Open}
@@ -33,4 +34,4 @@ pub record CarryoverFigures : Type 0 where
       × ((settled_gas true (gas r s (pos 0) (pos 5453) k) x).carried ≡ (k +ℤ pos 5453) +ℤ x.kept)
       × ((settled_gas true (gas r s (pos 0) (pos 5453) k) x).carryover ≡ pos 0)
   pub large_rest_is_refused : (o : Rules) (t : Terms) (n : Month) (r s k : ℤ) (e : Election) (m : Basis) (d : Posted) (b : Basis) (a room : ℕ) →
-      follows t.month n ≡ true → settling_answer o t (core_page r s (pos 5454) k e m d b) n a 1 room ≡ refused 9 book_layer a
+      follows t.month n ≡ true → settling_answer o t (core_page r s (pos 5454) k e m d b) n a 1 room ≡ refused 9 book_layer (Some a)

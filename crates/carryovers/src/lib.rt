@@ -4,6 +4,7 @@
 ghost use Rattle.std.specs.Prelude.{◌≡◌};
 ghost use Rattle.carryovers.specs.Table.{CarryoverFigures};
 
+/// The table of figures, which is proved; it has no code.
 fn table()
     ensures { CarryoverFigures }
 {}

@@ -1,9 +1,9 @@
 // A book with both registers, where the gas is added up apart.
 use crate::amounts::{gas_in, gas_out};
-use crate::fields::{must, same};
+use crate::fields::same;
 use balancing::{Monthly, SelfBalancing, TierPrices};
 use book::Book;
-use cards::FixedCard;
+use cards::{AtHand, FixedCard};
 use records::{BillLine, Call, Trade};
 use register::Register;
 use std::test::*;
@@ -25,10 +25,7 @@ pub(crate) struct Desk<'a> {
 
 /// A fixed card of a month.
 pub(crate) fn card_of(month: &Month, prices: TierPrices) -> Result<FixedCard, Fail> {
-    match FixedCard::new(month.year(), month.number(), prices) {
-        Ok(card) => Ok(card),
-        Err(fault) => Err(Fail::new(fault)),
-    }
+    FixedCard::new(month.year(), month.number(), prices).map_err(Fail::new)
 }
 
 /// Tier I at 1.255 dollars over and 4 under, Tier II at a millionth over and 1,500 under.
@@ -49,22 +46,18 @@ impl<'a> Desk<'a> {
         lines: &'a mut [BillLine],
         trades: &'a mut [Trade],
     ) -> Result<Desk<'a>, Fail> {
-        let option = match Monthly::new(5) {
-            Ok(option) => option,
-            Err(fault) => return Err(Fail::new(fault)),
-        };
-        match Book::new(option, SelfBalancing, year, month) {
-            Ok(book) => Ok(Desk {
-                book,
-                bills: Register::new(lines),
-                trades: Register::new(trades),
-                prices: usual_prices(),
-                tally: Tally::new(),
-                gas: 0,
-                due: 0,
-            }),
-            Err(fault) => Err(Fail::new(fault)),
-        }
+        let option = Monthly::new(5).map_err(Fail::new)?;
+        let book = Book::new(option, SelfBalancing, year, month).map_err(Fail::new)?;
+        // Nothing is counted yet. Not by `Default`, which a desk cannot have: it holds a book and lent memory.
+        Ok(Desk {
+            book,
+            bills: Register::new(lines),
+            trades: Register::new(trades),
+            prices: usual_prices(),
+            tally: Tally::new(),
+            gas: 0,
+            due: 0,
+        })
     }
 
     /// Performs a call with cards of two months, and looks whether the gas on all pages is still what entered less what was cashed
@@ -77,29 +70,26 @@ impl<'a> Desk<'a> {
     ) -> Result<Result<Option<u8>, Fault>, Fail> {
         let lines = self.bills.len();
         let trades = self.trades.len();
-        let settling = card_of(settling, self.prices)?;
-        let closing = card_of(closing, self.prices)?;
-        let due = self.book.due_by(call, &settling, &closing);
-        let answer = self.book.perform(
-            call,
-            &settling,
-            &closing,
-            &mut self.bills,
-            &mut self.trades,
-        );
+        let cards = AtHand {
+            settling: card_of(settling, self.prices)?,
+            closing: card_of(closing, self.prices)?,
+        };
+        let due = self.book.due_by(call, &cards);
+        let answer = self
+            .book
+            .perform(call, &cards, &mut self.bills, &mut self.trades);
         if answer.is_ok() {
             let out = gas_out(self.bills.since(lines));
             self.due = self.due.wrapping_add(due);
-            must(
-                self.tally.feed(call, self.bills.since(lines)).is_ok(),
-                "the tally counts a performed call",
-            )?;
+            self.tally
+                .feed(call, self.bills.since(lines))
+                .map_err(Fail::new)?;
             self.gas = self.gas.wrapping_add(gas_in(call)).wrapping_sub(out);
         } else {
-            same(self.bills.len() as i128, lines as i128)?;
-            same(self.trades.len() as i128, trades as i128)?;
+            same(self.bills.len(), lines)?;
+            same(self.trades.len(), trades)?;
         }
-        same(self.book.gas() as i128, self.gas)?;
+        same(i128::from(self.book.gas()), self.gas)?;
         Ok(answer)
     }
 }

@@ -1,36 +1,44 @@
-// The numbers of a script's line.
+// The fields of a script's line.
+use std::fmt::{Debug, Display};
+use std::str::{FromStr, SplitAsciiWhitespace};
 use std::test::*;
 
-/// The word at a place of a text.
-fn word_at(text: &str, place: usize) -> Option<&str> {
-    let mut left = place;
-    for word in text.split_ascii_whitespace() {
-        if left == 0 {
-            return Some(word);
+/// The fields of a text that are not read yet, from left to right.
+#[derive(Drop)]
+pub(crate) struct Fields<'a> {
+    words: SplitAsciiWhitespace<'a>,
+}
+
+impl<'a> From<&'a str> for Fields<'a> {
+    fn from(text: &'a str) -> Fields<'a> {
+        Fields {
+            words: text.split_ascii_whitespace(),
         }
-        left -= 1;
-    }
-    None
-}
-
-pub(crate) fn signed(text: &str, place: usize) -> Result<i64, Fail> {
-    match word_at(text, place) {
-        Some(word) => Ok(word.parse::<i64>()?),
-        None => Err(Fail::new("a field is missing")),
     }
 }
 
-pub(crate) fn large(text: &str, place: usize) -> Result<u64, Fail> {
-    match word_at(text, place) {
-        Some(word) => Ok(word.parse::<u64>()?),
-        None => Err(Fail::new("a field is missing")),
+impl<'a> Fields<'a> {
+    /// The next field.
+    pub(crate) fn read<N: FromStr>(&mut self) -> Result<N, Fail>
+    where
+        N::Err: Debug + Drop,
+    {
+        let word = self
+            .words
+            .next()
+            .ok_or_else(|| Fail::new("a field is missing"))?;
+        Ok(word.parse::<N>()?)
     }
-}
 
-pub(crate) fn small(text: &str, place: usize) -> Result<u8, Fail> {
-    match word_at(text, place) {
-        Some(word) => Ok(word.parse::<u8>()?),
-        None => Err(Fail::new("a field is missing")),
+    /// That the next field is this number.
+    pub(crate) fn is<N: FromStr + PartialEq + Display + Drop>(
+        &mut self,
+        number: N,
+    ) -> Result<(), Fail>
+    where
+        N::Err: Debug + Drop,
+    {
+        same(number, self.read()?)
     }
 }
 
@@ -40,16 +48,9 @@ pub(crate) fn must(holds: bool, what: &'static str) -> Result<(), Fail> {
 }
 
 /// That a number is the one that is wanted.
-pub(crate) fn same(number: i128, wanted: i128) -> Result<(), Fail> {
+pub(crate) fn same<N: PartialEq + Display + Drop>(number: N, wanted: N) -> Result<(), Fail> {
     if number == wanted {
-        Ok(())
-    } else {
-        Err(Fail::new(format_args!("{number} in place of {wanted}")))
+        return Ok(());
     }
-}
-
-/// That the number at a place is this one.
-pub(crate) fn is(text: &str, place: usize, number: i64) -> Result<(), Fail> {
-    let wanted = signed(text, place)?;
-    same(number as i128, wanted as i128)
+    Err(Fail::new(format_args!("{number} in place of {wanted}")))
 }

@@ -1,83 +1,80 @@
 // Looks at pages, bill lines and trade confirmations.
 use crate::desk::Desk;
-use crate::fields::{is, same};
-use page::Page;
+use crate::fields::{Fields, same};
+use page::{Basis, Gas, Page};
 use records::{BillLine, Trade};
 use std::test::*;
 use tariff::Month;
 
 /// The five quantities of a page.
-fn gas_is(page: &Page, wanted: &str) -> Result<(), Fail> {
-    is(wanted, 0, page.gas.running as i64)?;
-    is(wanted, 1, page.gas.statement as i64)?;
-    is(wanted, 2, page.gas.operating as i64)?;
-    is(wanted, 3, page.gas.carryover as i64)?;
-    is(wanted, 4, page.gas.carried as i64)
+fn gas_is(gas: &Gas, wanted: &mut Fields<'_>) -> Result<(), Fail> {
+    wanted.is(gas.running)?;
+    wanted.is(gas.statement)?;
+    wanted.is(gas.operating)?;
+    wanted.is(gas.carryover)?;
+    wanted.is(gas.carried)
 }
 
-/// What the running month has.
-fn month_is(page: &Page, wanted: &str) -> Result<(), Fail> {
-    is(wanted, 6, page.posted.day as i64)?;
-    is(wanted, 7, page.month.usage as i64)?;
-    is(wanted, 8, page.month.monthly_quantity as i64)?;
-    is(wanted, 9, page.posted.daily_excess as i64)?;
-    is(wanted, 10, page.posted.accumulated_excess as i64)
+/// Usage and monthly quantity.
+fn basis_is(basis: &Basis, wanted: &mut Fields<'_>) -> Result<(), Fail> {
+    wanted.is(basis.usage)?;
+    wanted.is(basis.monthly_quantity)
 }
 
 /// R S P C K, settled, day, usage, monthly quantity, both sums of excesses, the statement's usage and monthly quantity.
 pub(crate) fn page_is(page: &Page, wanted: &str) -> Result<(), Fail> {
-    gas_is(page, wanted)?;
-    is(wanted, 5, page.settled as i64)?;
-    month_is(page, wanted)?;
-    is(wanted, 11, page.statement.usage as i64)?;
-    is(wanted, 12, page.statement.monthly_quantity as i64)
+    let mut wanted = Fields::from(wanted);
+    gas_is(&page.gas, &mut wanted)?;
+    wanted.is(u8::from(page.settled))?;
+    wanted.is(page.posted.day)?;
+    basis_is(&page.month, &mut wanted)?;
+    wanted.is(page.posted.daily_excess)?;
+    wanted.is(page.posted.accumulated_excess)?;
+    basis_is(&page.statement, &mut wanted)
 }
 
 /// Year and number.
-pub(crate) fn month_at(month: &Month, wanted: &str, place: usize) -> Result<(), Fail> {
-    let next = place.wrapping_add(1);
-    is(wanted, place, month.year() as i64)?;
-    is(wanted, next, month.number() as i64)
+fn month_is(month: &Month, wanted: &mut Fields<'_>) -> Result<(), Fail> {
+    wanted.is(month.year())?;
+    wanted.is(month.number())
 }
 
 /// Account, year, month, kind, quantity, price, cents.
-pub(crate) fn line_is(line: &BillLine, wanted: &str) -> Result<(), Fail> {
-    is(wanted, 0, line.account as i64)?;
-    month_at(&line.month, wanted, 1)?;
-    is(wanted, 3, line.charge.kind.number() as i64)?;
-    is(wanted, 4, line.charge.quantity)?;
-    is(wanted, 5, line.charge.price as i64)?;
-    match i64::try_from(line.charge.cents.count) {
-        Ok(cents) => is(wanted, 6, cents),
-        Err(_) => Err(Fail::new("too many cents")),
-    }
+fn line_is(line: &BillLine, wanted: &mut Fields<'_>) -> Result<(), Fail> {
+    wanted.is(line.account)?;
+    month_is(&line.month, wanted)?;
+    wanted.is(line.charge.kind.number())?;
+    wanted.is(line.charge.quantity)?;
+    wanted.is(line.charge.price)?;
+    wanted.is(line.charge.cents.count)
 }
 
 /// Year, month, giver, its component, taker, its component, quantity.
-pub(crate) fn trade_is(trade: &Trade, wanted: &str) -> Result<(), Fail> {
-    month_at(&trade.month, wanted, 0)?;
-    is(wanted, 2, trade.giver as i64)?;
-    is(wanted, 3, trade.gives.number() as i64)?;
-    is(wanted, 4, trade.taker as i64)?;
-    is(wanted, 5, trade.takes.number() as i64)?;
-    is(wanted, 6, trade.quantity as i64)
+fn trade_is(trade: &Trade, wanted: &mut Fields<'_>) -> Result<(), Fail> {
+    month_is(&trade.month, wanted)?;
+    wanted.is(trade.giver)?;
+    wanted.is(trade.gives.number())?;
+    wanted.is(trade.taker)?;
+    wanted.is(trade.takes.number())?;
+    wanted.is(trade.quantity)
 }
 
 /// A look at the book, a line or a trade.
 pub(crate) fn look(desk: &Desk<'_>, word: &str, place: usize, wanted: &str) -> Result<(), Fail> {
+    let mut wanted = Fields::from(wanted);
     match word {
-        "gas" => is(wanted, 0, desk.book.gas()),
-        "month" => month_at(&desk.book.running_month(), wanted, 0),
-        "bills" => same(desk.bills.len() as i128, place as i128),
-        "trades" => same(desk.trades.len() as i128, place as i128),
-        "bill" => match desk.bills.read(place) {
-            Some(line) => line_is(&line, wanted),
-            None => Err(Fail::new("no such line")),
-        },
-        "trade" => match desk.trades.read(place) {
-            Some(trade) => trade_is(&trade, wanted),
-            None => Err(Fail::new("no such trade")),
-        },
+        "gas" => wanted.is(desk.book.gas()),
+        "month" => month_is(&desk.book.running_month(), &mut wanted),
+        "bills" => same(desk.bills.len(), place),
+        "trades" => same(desk.trades.len(), place),
+        "bill" => {
+            let line = desk.bills.read(place).ok_or("no such line")?;
+            line_is(&line, &mut wanted)
+        }
+        "trade" => {
+            let trade = desk.trades.read(place).ok_or("no such trade")?;
+            trade_is(&trade, &mut wanted)
+        }
         _ => Err(Fail::new("no such word")),
     }
 }

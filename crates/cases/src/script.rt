@@ -1,214 +1,202 @@
 // Plays a script: each line is a call or a look, an equals sign, and what the rules give for it.
 use crate::desk::Desk;
-use crate::fields::{is, large, must, same, signed, small};
+use crate::fields::{Fields, must, same};
 use crate::looks::{look, page_is};
-use records::{BillLine, Call, Component, Trade};
+use records::Call;
 use std::io::Eprint;
 use std::test::*;
-use tariff::{BillKind, Charge, Fault, Month};
+use tariff::{Fault, Month};
 
-/// That a fault has this row, layer and account.
-fn fault_is(fault: &Fault, wanted: &str) -> Result<(), Fail> {
-    is(wanted, 0, fault.row.number() as i64)?;
-    is(wanted, 1, fault.layer.number() as i64)?;
-    is(wanted, 2, fault.account as i64)
+/// That a fault is `refused ROW LAYER ACCOUNT`.
+fn refused(fault: Fault, wanted: &str) -> Result<(), Fail> {
+    let text = wanted
+        .strip_prefix("refused ")
+        .ok_or_else(|| Fail::new(fault))?;
+    let mut wanted = Fields::from(text);
+    wanted.is(fault.row.number())?;
+    wanted.is(fault.layer.number())?;
+    wanted.is(fault.account_number())
 }
 
 /// `done`, `place P`, or `refused ROW LAYER ACCOUNT`.
-fn answer_is(answer: &Result<Option<u8>, Fault>, wanted: &str) -> Result<(), Fail> {
+fn answer_is(answer: Result<Option<u8>, Fault>, wanted: &str) -> Result<(), Fail> {
     match answer {
         Ok(None) => must(wanted == "done", "performed, without a place"),
-        Ok(Some(place)) => match wanted.strip_prefix("place ") {
-            Some(text) => is(text, 0, *place as i64),
-            None => Err(Fail::new("performed, with a place")),
-        },
-        Err(fault) => match wanted.strip_prefix("refused ") {
-            Some(text) => fault_is(fault, text),
-            None => Err(Fail::new(*fault)),
-        },
+        Ok(Some(place)) => {
+            let text = wanted
+                .strip_prefix("place ")
+                .ok_or_else(|| Fail::new("performed, with a place"))?;
+            Fields::from(text).is(place)
+        }
+        Err(fault) => refused(fault, wanted),
     }
 }
 
 /// The call that a line names.
-fn call_of(word: &str, rest: &str) -> Result<Option<Call>, Fail> {
-    match word {
-        "open" => Ok(Some(Call::Open {
-            account: small(rest, 0)?,
-            kind: small(rest, 1)?,
-            election: small(rest, 2)?,
-            monthly_quantity: large(rest, 3)?,
-        })),
-        "set" => Ok(Some(Call::Set {
-            account: small(rest, 0)?,
-            monthly_quantity: large(rest, 1)?,
-        })),
-        "post" => Ok(Some(Call::Post {
-            account: small(rest, 0)?,
-            day: small(rest, 1)?,
-            order: small(rest, 2)?,
-            receipts: large(rest, 3)?,
-            usage: large(rest, 4)?,
-        })),
-        "adjust" => Ok(Some(Call::Adjust {
-            account: small(rest, 0)?,
-            quantity: signed(rest, 1)?,
-        })),
-        "state" => Ok(Some(Call::State {
-            account: small(rest, 0)?,
-            quantity: signed(rest, 1)?,
-        })),
-        _ => trading_call(word, rest),
-    }
-}
-
-fn trading_call(word: &str, rest: &str) -> Result<Option<Call>, Fail> {
-    match word {
-        "offer" => Ok(Some(Call::Offer {
-            giver: small(rest, 0)?,
-            gives: small(rest, 1)?,
-            taker: small(rest, 2)?,
-            takes: small(rest, 3)?,
-            quantity: large(rest, 4)?,
-        })),
-        "accept" => Ok(Some(Call::Accept {
-            taker: small(rest, 0)?,
-            place: small(rest, 1)?,
-        })),
-        "fold" => Ok(Some(Call::Fold {
-            member: small(rest, 0)?,
-            agent: small(rest, 1)?,
-        })),
-        "settle" => Ok(Some(Call::Settle {
-            account: small(rest, 0)?,
-            clear: small(rest, 1)?,
-        })),
-        "close" => Ok(Some(Call::Close)),
-        _ => Ok(None),
-    }
-}
-
-fn month_named(year: u64, number: u8) -> Result<Month, Fail> {
-    let Ok(year) = u16::try_from(year) else {
-        return Err(Fail::new("no such year"));
+fn call_of(word: &str, rest: &mut Fields<'_>) -> Result<Option<Call>, Fail> {
+    let call = match word {
+        "open" => Call::Open {
+            account: rest.read()?,
+            kind: rest.read()?,
+            election: rest.read()?,
+            monthly_quantity: rest.read()?,
+        },
+        "set" => Call::Set {
+            account: rest.read()?,
+            monthly_quantity: rest.read()?,
+        },
+        "post" => Call::Post {
+            account: rest.read()?,
+            day: rest.read()?,
+            order: rest.read()?,
+            receipts: rest.read()?,
+            usage: rest.read()?,
+        },
+        "adjust" => Call::Adjust {
+            account: rest.read()?,
+            quantity: rest.read()?,
+        },
+        "state" => Call::State {
+            account: rest.read()?,
+            quantity: rest.read()?,
+        },
+        _ => return trading_call(word, rest),
     };
-    match Month::new(year, number) {
-        Some(month) => Ok(month),
-        None => Err(Fail::new("no such month")),
-    }
+    Ok(Some(call))
+}
+
+fn trading_call(word: &str, rest: &mut Fields<'_>) -> Result<Option<Call>, Fail> {
+    let call = match word {
+        "offer" => Call::Offer {
+            giver: rest.read()?,
+            gives: rest.read()?,
+            taker: rest.read()?,
+            takes: rest.read()?,
+            quantity: rest.read()?,
+        },
+        "accept" => Call::Accept {
+            taker: rest.read()?,
+            place: rest.read()?,
+        },
+        "fold" => Call::Fold {
+            member: rest.read()?,
+            agent: rest.read()?,
+        },
+        "settle" => Call::Settle {
+            account: rest.read()?,
+            clear: rest.read()?,
+        },
+        "close" => Call::Close,
+        _ => return Ok(None),
+    };
+    Ok(Some(call))
+}
+
+/// The month of the next two fields, year and number.
+fn month_of(rest: &mut Fields<'_>) -> Result<Month, Fail> {
+    Month::new(rest.read()?, rest.read()?).ok_or_else(|| Fail::new("no such month"))
 }
 
 impl<'a> Desk<'a> {
-    /// A call with cards of the statement month and of the running month.
-    fn usual(&mut self, call: &Call, wanted: &str) -> Result<(), Fail> {
+    /// Asks with cards of the statement month and of the running month.
+    fn ask_usual(&mut self, call: &Call) -> Result<Result<Option<u8>, Fault>, Fail> {
         let settling = self.book.statement_month();
         let closing = self.book.running_month();
-        let answer = self.ask(call, &settling, &closing)?;
-        answer_is(&answer, wanted)
+        self.ask(call, &settling, &closing)
+    }
+
+    /// A call with cards of the statement month and of the running month.
+    fn usual(&mut self, call: &Call, wanted: &str) -> Result<(), Fail> {
+        answer_is(self.ask_usual(call)?, wanted)
     }
 
     /// Posts all days of the month that are left, each with this flag, these receipts and this usage.
-    fn days(&mut self, rest: &str) -> Result<(), Fail> {
-        let account = small(rest, 0)?;
-        let order = small(rest, 1)?;
-        let receipts = large(rest, 2)?;
-        let usage = large(rest, 3)?;
+    fn days(&mut self, rest: &mut Fields<'_>) -> Result<(), Fail> {
+        let account = rest.read()?;
+        let order = rest.read()?;
+        let receipts = rest.read()?;
+        let usage = rest.read()?;
+        let posted = self.book.page(account).map_err(Fail::new)?.posted.day;
         let days = self.book.running_month().days();
-        for day in 1..32u8 {
-            let posted = match self.book.page(account) {
-                Ok(page) => page.posted.day,
-                Err(fault) => return Err(Fail::new(fault)),
+        // Days have numbers from 1 on, which a call holds.
+        for day in (1..=days).filter(|day| *day > posted) {
+            let call = Call::Post {
+                account,
+                day,
+                order,
+                receipts,
+                usage,
             };
-            if day > posted && day <= days {
-                self.usual(
-                    &Call::Post {
-                        account,
-                        day,
-                        order,
-                        receipts,
-                        usage,
-                    },
-                    "done",
-                )?;
-            }
+            self.usual(&call, "done")?;
         }
         Ok(())
     }
 
     /// Lays so many offers of 1 Dth from account 0 to account 1.
     fn lay(&mut self, count: u8) -> Result<(), Fail> {
+        let call = Call::Offer {
+            giver: 0,
+            gives: 1,
+            taker: 1,
+            takes: 1,
+            quantity: 1,
+        };
+        // Places have numbers from 0 on, in the order in which offers are given them.
         for place in 0..count {
-            let settling = self.book.statement_month();
-            let closing = self.book.running_month();
-            let call = Call::Offer {
-                giver: 0,
-                gives: 1,
-                taker: 1,
-                takes: 1,
-                quantity: 1,
-            };
-            match self.ask(&call, &settling, &closing)? {
-                Ok(Some(given)) => same(given as i128, place as i128)?,
-                Ok(None) => return Err(Fail::new("no place")),
-                Err(fault) => return Err(Fail::new(fault)),
-            }
+            let given = self.ask_usual(&call)?.map_err(Fail::new)?;
+            same(given.ok_or_else(|| Fail::new("no place"))?, place)?;
         }
         Ok(())
     }
 
     /// The page of an account, whose gas is its number in the tally, or its refusal.
-    fn page(&self, rest: &str, wanted: &str) -> Result<(), Fail> {
-        match self.book.page(small(rest, 0)?) {
+    fn page(&self, account: u8, wanted: &str) -> Result<(), Fail> {
+        // A match, and no `?`: a refusal is an answer, and may be the one that is wanted.
+        match self.book.page(account) {
             Ok(page) => {
-                let number = self.tally.number(small(rest, 0)?);
-                same(number as i128, page.gas_held() as i128)?;
+                same(self.tally.number(account), page.gas_held())?;
                 page_is(&page, wanted)
             }
-            Err(fault) => match wanted.strip_prefix("refused ") {
-                Some(text) => fault_is(&fault, text),
-                None => Err(Fail::new(fault)),
-            },
+            Err(fault) => refused(fault, wanted),
         }
     }
 
-    /// Settles with a card of another month: year, number, account, clear flag.
-    fn settle_with(&mut self, rest: &str, wanted: &str) -> Result<(), Fail> {
-        let month = month_named(large(rest, 0)?, small(rest, 1)?)?;
-        let call = Call::Settle {
-            account: small(rest, 2)?,
-            clear: small(rest, 3)?,
-        };
-        let answer = self.ask(&call, &month, &month)?;
-        answer_is(&answer, wanted)
+    /// A call with cards of another month: year, number, then the fields of the call.
+    fn with_other_cards(
+        &mut self,
+        word: &str,
+        rest: &mut Fields<'_>,
+        wanted: &str,
+    ) -> Result<(), Fail> {
+        let month = month_of(rest)?;
+        let call = call_of(word, rest)?.ok_or_else(|| Fail::new("no such call"))?;
+        answer_is(self.ask(&call, &month, &month)?, wanted)
     }
 
-    /// Closes with a card of another month: year, number.
-    fn close_with(&mut self, rest: &str, wanted: &str) -> Result<(), Fail> {
-        let month = month_named(large(rest, 0)?, small(rest, 1)?)?;
-        let answer = self.ask(&Call::Close, &month, &month)?;
-        answer_is(&answer, wanted)
+    /// A call of the ten, or else a look.
+    fn call_or_look(&mut self, word: &str, rest: &str, wanted: &str) -> Result<(), Fail> {
+        match call_of(word, &mut Fields::from(rest))? {
+            Some(call) => self.usual(&call, wanted),
+            None => {
+                let place = match rest {
+                    "" => 0,
+                    _ => rest.parse::<usize>()?,
+                };
+                look(self, word, place, wanted)
+            }
+        }
     }
 
     fn step(&mut self, asked: &str, wanted: &str) -> Result<(), Fail> {
-        let (word, rest) = match asked.split_once(' ') {
-            Some(parts) => parts,
-            None => (asked, ""),
-        };
+        let (word, rest) = asked.split_once(' ').unwrap_or((asked, ""));
+        let mut fields = Fields::from(rest);
         match word {
-            "days" => self.days(rest),
-            "page" => self.page(rest, wanted),
-            "lay" => self.lay(small(rest, 0)?),
-            "settle-with" => self.settle_with(rest, wanted),
-            "close-with" => self.close_with(rest, wanted),
-            _ => match call_of(word, rest)? {
-                Some(call) => self.usual(&call, wanted),
-                None => {
-                    let place = match rest {
-                        "" => 0,
-                        _ => rest.parse::<usize>()?,
-                    };
-                    look(self, word, place, wanted)
-                }
-            },
+            "days" => self.days(&mut fields),
+            "page" => self.page(fields.read()?, wanted),
+            "lay" => self.lay(fields.read()?),
+            "settle-with" => self.with_other_cards("settle", &mut fields, wanted),
+            "close-with" => self.with_other_cards("close", &mut fields, wanted),
+            _ => self.call_or_look(word, rest, wanted),
         }
     }
 
@@ -219,31 +207,10 @@ impl<'a> Desk<'a> {
                 Some((asked, wanted)) => self.step(asked, wanted),
                 None => must(line.is_empty(), "a line without an equals sign"),
             };
-            if let Err(fail) = played {
+            played.inspect_err(|_| {
                 let _ = eprintln!(rt; "at the line: {line}");
-                return Err(fail);
-            }
+            })?;
         }
         Ok(())
     }
-}
-
-/// A line and a trade for places that hold none yet.
-pub(crate) fn no_line() -> Result<BillLine, Fail> {
-    Ok(BillLine {
-        account: 0,
-        month: month_named(2000, 1)?,
-        charge: Charge::new(BillKind::TierOne, 0, 0),
-    })
-}
-
-pub(crate) fn no_trade() -> Result<Trade, Fail> {
-    Ok(Trade {
-        month: month_named(2000, 1)?,
-        giver: 0,
-        gives: Component::Statement,
-        taker: 0,
-        takes: Component::Statement,
-        quantity: 0,
-    })
 }

@@ -1,39 +1,37 @@
 // Amounts as a clerk writes them: digits, and perhaps a point and decimals.
 #![tactic(auto)]
 
-ghost use Rattle.std.specs.Prelude.{◌≡◌, ◌*◌, ◌^◌, ◌<◌, ◌≤◌, [], length, IfSome};
-ghost use Rattle.decimal.specs.Amounts.{places, provided, is_number, number, point_at, after_point, amount};
+ghost use Rattle.std.specs.Prelude.{◌≡◌, ◌*◌, ◌^◌, ◌<◌, ◌≤◌, [], length, Some, None, IfSome, IfNone, if◌then◌else◌, position, ◌==◌};
+ghost use Rattle.decimal.specs.Amounts.{places, provided, is_number, number, has_point, point_at, before_point, after_point, amount};
 
 /// How many decimals an amount may have.
 #[derive(Clone, Copy)]
 pub enum Decimals {
-    Four,
-    Six,
+    Four = 4,
+    Six = 6,
 }
 
 impl Decimals {
     pub fn count(&self) -> usize
         ensures { result ≡ places self.now }
     {
-        match self {
-            Decimals::Four => 4,
-            Decimals::Six => 6,
-        }
+        *self as usize
     }
 }
 
-/// Where the first point stands, or the text's length where there is none.
-fn point_in(text: &[u8]) -> usize
-    ensures value { result ≡ point_at text.now }
-    ensures bound { result ≤ length text.now }
-    ensures none { result ≡ length text.now → after_point text.now ≡ [] }
+/// Where the first point stands, as the library's search finds it.
+fn first_point(text: &[u8]) -> Option<usize>
+    ensures { result ≡ position (λ b. b == 46) text.now }
 {
-    for (i, b) in text.iter().enumerate() {
-        if *b == b'.' {
-            return i;
-        }
-    }
-    text.len()
+    text.iter().position(|b| *b == b'.')
+}
+
+/// Where the first point stands, if there is one.
+fn point_in(text: &[u8]) -> Option<usize>
+    ensures value { result ≡ (if has_point text.now then Some (point_at text.now) else None) }
+    ensures whole { IfNone result ((before_point text.now ≡ text.now) × (after_point text.now ≡ [])) }
+{
+    first_point(text)
 }
 
 /// The number that one to `most` digits write; none where the bytes are no such digits.
@@ -47,10 +45,10 @@ fn read_number(digits: &[u8], most: usize) -> Option<u64>
     }
     let mut n: u64 = 0;
     for b in digits {
-        if *b < b'0' || *b > b'9' {
+        if !b.is_ascii_digit() {
             return None;
         }
-        n = n * 10 + (*b - b'0') as u64;
+        n = n * 10 + u64::from(*b - b'0');
     }
     Some(n)
 }
@@ -62,15 +60,7 @@ fn scaled(n: u64, k: usize) -> u64
     ensures value { result ≡ n * 10 ^ k }
     ensures bound { result < 10 ^ 18 }
 {
-    match k {
-        0 => n,
-        1 => n * 10,
-        2 => n * 100,
-        3 => n * 1_000,
-        4 => n * 10_000,
-        5 => n * 100_000,
-        _ => n * 1_000_000,
-    }
+    n * 10_u64.pow(k as u32)
 }
 
 /// An amount of at most so many decimals, in units of the last of them; none where the text is no such amount.
@@ -78,12 +68,11 @@ pub fn read_amount(text: &[u8], decimals: Decimals) -> Option<u64>
     ensures { result ≡ amount (places decimals) text.now }
 {
     let count = decimals.count();
-    let point = point_in(text);
+    let Some(point) = point_in(text) else {
+        return Some(scaled(read_number(text, 12)?, count));
+    };
+    let behind = &text[point + 1..];
     let whole = read_number(&text[..point], 12)?;
-    if point == text.len() {
-        return Some(scaled(whole, count));
-    }
-    let (_, behind) = text.split_at(point + 1);
     let fraction = read_number(behind, count)?;
     Some(scaled(whole, count) + scaled(fraction, count - behind.len()))
 }

@@ -1,22 +1,11 @@
 -- The first few of a list in order, as one more number joins it. Assumes nothing.
-use Rattle.std.proofs.Common.{◌≡◌, ℕ, zero, suc, ◌+◌, ◌<◌, Bool, true, false, List, [], ◌∷◌, ◌++◌, length, get_or, take, set, fold, sym, refl, ap, ◌∙◌, ⊎_elim, arith}
-use Rattle.std.proofs.lemmas.List.{take_more_set, take_all, take_at, take-take, length_push}
+use Rattle.std.proofs.Common.{◌≡◌, ℕ, zero, suc, ◌+◌, ◌<◌, Bool, true, false, List, [], ◌∷◌, ◌++◌, length, get_or, take, set, fold, sym, ap, ◌∙◌, arith}
+use Rattle.std.proofs.lemmas.List.{take_more_set, take_all, take_at, length_push}
 use Rattle.std.proofs.lemmas.List.Sums.{fold_more}
-use Rattle.std.proofs.lemmas.Bool.{cases_Bool, cond_both}
+use Rattle.std.proofs.lemmas.Bool.{cond_both}
 use Rattle.extremes.specs.Arranged.{insert, sorted, Leads, Ascending}
 
 module _ (upto : ℕ → ℕ → Bool) where
-  -- the first n of ys decide where x comes among the first n
-  pub take_insert : (n x : ℕ) (ys : List ℕ) → take n (insert upto x ys) ≡ take n (insert upto x (take n ys))
-  take_insert zero x ys = refl
-  take_insert (suc n) x [] = refl
-  take_insert (suc n) x (y ∷ ys) =
-      ⊎_elim (λ t. rw t (ap (λ l. x ∷ l) (front n))) (λ f. rw f (ap (λ l. y ∷ l) (take_insert n x ys))) (cases_Bool (upto x y))
-    where
-      front : (n : ℕ) → take n (y ∷ ys) ≡ take n (y ∷ take n ys)
-      front zero = refl
-      front (suc m) = ap (λ l. y ∷ l) (sym (take-take m (suc m) ys (omega arith)))
-
   -- p are the numbers held after a pass, in n places, and r is the one carried out of it: there is a place left for r
   pub one_more : (r n : ℕ) (p rest : List ℕ) → length p ≡ n → n < 5 → n < length (p ++ rest) → take (n + 1) (set (p ++ rest) n r) ≡ take 5 (p ++ (r ∷ []))
   one_more r n p rest len small within =

@@ -2,5 +2,4 @@ mod Pass
 mod Five
 mod Shuffles
 mod OneOrder
-mod Known
 mod Lead

@@ -10,11 +10,7 @@ module _ (upto : ℕ → ℕ → Bool) where
   pass c [] = c ∷ []
   pass c (y ∷ ys) = cond (upto c y) (c ∷ pass y ys) (y ∷ pass c ys)
 
-  -- a turn of the pass leaves what it gives in the end as it was
-  abbrev pub PassFacts : Type 0
-  PassFacts =
-      ((xs : List ℕ) (i c : ℕ) → i < length xs → upto c (get_or xs i 0) ≡ true → take (i + 1) (set xs i c) ++ pass (get_or xs i 0) (drop (i + 1) (set xs i c)) ≡ take i xs ++ pass c (drop i xs)) × ((xs : List ℕ) (i c : ℕ) → i < length xs → upto c (get_or xs i 0) ≡ false → take (i + 1) (set xs i (get_or xs i 0)) ++ pass c (drop (i + 1) (set xs i (get_or xs i 0))) ≡ take i xs ++ pass c (drop i xs))
-
+  -- a turn of the pass leaves what it gives in the end as it was: where it takes the number at its place, and where it keeps it
   pub pass_takes : (xs : List ℕ) (i c : ℕ) → i < length xs → upto c (get_or xs i 0) ≡ true → take (i + 1) (set xs i c) ++ pass (get_or xs i 0) (drop (i + 1) (set xs i c)) ≡ take i xs ++ pass c (drop i xs)
   pass_takes xs i c h t =
       let lt : i < i + 1 = omega arith in

@@ -1,11 +1,12 @@
 -- What `sorted` gives has the numbers of its list, each as often. Assumes nothing.
 use Rattle.std.proofs.Common.{ℕ, zero, suc, ◌*◌, ◌≤◌, Bool, List, [], ◌∷◌, ◌++◌, length, get_or, take, sum, refl, subst, add-one, arith}
 use Rattle.std.specs.List.Sorted.{IsPermutation}
-use Rattle.std.specs.List.{AllByRecursion}
+use Rattle.std.specs.List.{All}
 use Rattle.std.proofs.lemmas.Nat.{mul-le}
-use Rattle.std.proofs.ByRecursion.{All-take, sum_by_le, all_shuffled}
+use Rattle.std.proofs.lemmas.List.Elements.{All-take}
+use Rattle.std.proofs.lemmas.List.Sums.{sum_by-le}
 use Rattle.std.proofs.lemmas.List.{take_more, take_all, length-take}
-use Rattle.std.proofs.lemmas.List.Sorted.{IsPermutation-refl, IsPermutation-cons, IsPermutation-to_front, IsPermutation-swap, IsPermutation-trans}
+use Rattle.std.proofs.lemmas.List.Sorted.{IsPermutation-refl, IsPermutation-cons, IsPermutation-to_front, IsPermutation-swap, IsPermutation-trans, All-permutation}
 use Rattle.std.proofs.lemmas.Bool.{cond_both}
 use Rattle.extremes.specs.Arranged.{insert, sorted}
 use Rattle.extremes.proofs.Five.{sorted_more}
@@ -34,9 +35,9 @@ module _ (upto : ℕ → ℕ → Bool) where
   sorted_shuffles xs = subst (λ l. IsPermutation l (sorted upto l)) (take_all (length xs) xs (omega arith)) (front_shuffled xs (length xs) (omega arith))
 
   -- the first five of numbers up to m
-  pub five_bound : (xs : List ℕ) (m : ℕ) → AllByRecursion (λ x. x ≤ m) xs → sum (take 5 (sorted upto xs)) ≤ 5 * m
+  pub five_bound : (xs : List ℕ) (m : ℕ) → All (λ x. x ≤ m) xs → sum (take 5 (sorted upto xs)) ≤ 5 * m
   five_bound xs m all =
       let s : List ℕ = sorted upto xs in
-      let low = sum_by_le (λ x. x) m (take 5 s) (All-take (λ x. x ≤ m) 5 s (all_shuffled (λ x. x ≤ m) xs s (sorted_shuffles xs) all)) in
+      let low = sum_by-le (λ x. x) m (take 5 s) (All-take (λ x. x ≤ m) 5 s (All-permutation (λ x. x ≤ m) xs s (sorted_shuffles xs) all)) in
       let few : length (take 5 s) ≤ 5 = rw length-take (omega arith) in
       omega (arith, low, mul-le (length (take 5 s)) m 5 m few (omega arith))

@@ -1,7 +1,7 @@
 -- A list put in order, and its first number. An order is a test `upto`, which says of two numbers whether the first comes no later than the second. Assumes nothing.
 use Rattle.std.specs.Prelude.{◌≡◌, ℕ, Bool, true, cond, List, [], ◌∷◌, fold}
 use Rattle.std.specs.List.Sorted.{IsPermutation}
-use Rattle.std.specs.List.{ContainsAt, AllByRecursion}
+use Rattle.std.specs.List.{All, Contains}
 
 -- a number put into a list that is in order: before the first one that it may stand before, or else at the end
 abbrev pub insert : (ℕ → ℕ → Bool) → ℕ → List ℕ → List ℕ
@@ -28,4 +28,4 @@ InOrder upto xs ys = IsPermutation xs ys × Ascending upto ys
 
 -- x is one of the numbers of xs, and comes no later than any of them
 abbrev pub Foremost : (ℕ → ℕ → Bool) → List ℕ → ℕ → Type 0
-Foremost upto xs x = ContainsAt xs x × AllByRecursion (λ y. upto x y ≡ true) xs
+Foremost upto xs x = Contains xs x × All (λ y. upto x y ≡ true) xs

@@ -3,9 +3,11 @@
 #![tactic(auto)]
 
 ghost use Rattle.std.specs.Prelude.{◌≡◌, ℕ, ◌+◌, ◌*◌, ◌<◌, ◌≤◌, min, Bool, true, false, List, [], ◌∷◌, ◌++◌, length, take, if◌then◌else◌, Some, None, sum, MatchOption, nat_eq, nat_le, nat_lt, slice_index};
-ghost use Rattle.std.specs.List.{AllByRecursion};
+ghost use Rattle.std.specs.List.{All};
 ghost use Rattle.extremes.specs.Arranged.{Ascending, Foremost, InOrder, insert, sorted};
 ghost use Rattle.std.proofs.Common.{rules};
+
+use std::mem::replace;
 
 /// A total order of the numbers.
 pub trait Order {
@@ -70,18 +72,9 @@ impl Order for Falling {
 pub fn first<O: Order>(xs: &[u32]) -> Option<u32>
     ensures value { result ≡ (if nat_eq (length xs.now) 0 then None else Some (slice_index (sorted O.Order.upto xs.now) 0)) }
     ensures foremost { MatchOption result (length xs.now ≡ 0) (λ x. Foremost O.Order.upto xs.now x) }
-    ensures bound { (m : ℕ) → AllByRecursion (λ x. x ≤ m) xs.now → MatchOption result (length xs.now ≡ 0) (λ x. x ≤ m) }
+    ensures bound { (m : ℕ) → All (λ x. x ≤ m) xs.now → MatchOption result (length xs.now ≡ 0) (λ x. x ≤ m) }
 {
-    if xs.is_empty() {
-        return None;
-    }
-    let mut found = xs[0];
-    for x in xs {
-        if O::comes_first(*x, found) {
-            found = *x;
-        }
-    }
-    Some(found)
+    xs.iter().copied().reduce(|found, x| if O::comes_first(x, found) { x } else { found })
 }
 
 /// The sum of the five numbers that come first, or `None` where there are fewer than five numbers.
@@ -89,7 +82,7 @@ pub fn sum_of_five_first<O: Order>(xs: &[u32]) -> Option<u64>
     ensures value { result ≡ (if nat_lt (length xs.now) 5 then None else Some (sum (take 5 (sorted O.Order.upto xs.now)))) }
     ensures order { MatchOption result (length xs.now < 5) (λ _. InOrder O.Order.upto xs.now (sorted O.Order.upto xs.now)) }
     ensures any_order { (ys : List ℕ) → InOrder O.Order.upto xs.now ys → MatchOption result (length xs.now < 5) (λ s. s ≡ sum (take 5 ys)) }
-    ensures bound { (m : ℕ) → AllByRecursion (λ x. x ≤ m) xs.now → MatchOption result (length xs.now < 5) (λ s. s ≤ 5 * m) }
+    ensures bound { (m : ℕ) → All (λ x. x ≤ m) xs.now → MatchOption result (length xs.now < 5) (λ s. s ≤ 5 * m) }
 {
     if xs.len() < 5 {
         return None;
@@ -104,7 +97,7 @@ fn five_first<O: Order>(xs: &[u32]) -> [u32; 5]
     ensures five { result ≡ take 5 (sorted O.Order.upto xs.now) }
     ensures order { InOrder O.Order.upto xs.now (sorted O.Order.upto xs.now) }
     ensures any_order { (ys : List ℕ) → InOrder O.Order.upto xs.now ys → result ≡ take 5 ys }
-    ensures bound { (m : ℕ) → AllByRecursion (λ x. x ≤ m) xs.now → sum result ≤ 5 * m }
+    ensures bound { (m : ℕ) → All (λ x. x ≤ m) xs.now → sum result ≤ 5 * m }
 {
     let mut held = [0u32; 5];
     let mut count = 0usize;
@@ -118,22 +111,19 @@ fn five_first<O: Order>(xs: &[u32]) -> [u32; 5]
 fn sum_of(five: &[u32; 5]) -> u64
     ensures { result ≡ sum five.now }
 {
-    let mut total = 0u64;
-    for k in five {
-        total += u64::from(*k);
-    }
-    total
+    five.iter().map(|x| u64::from(*x)).sum()
 }
 
 /// Puts `x` where it belongs among the first `count` of `held`, which are in order, drops what then stands sixth, and
 /// returns how many are held.
+// An array with a count, and no `Vec`: nothing below the reports allocates, so that no call fails for want of memory.
 fn join<O: Order>(held: &mut [u32; 5], count: usize, x: u32) -> usize
     requires count_bound { count ≤ 5 }
     requires ascending { Ascending O.Order.upto (take count held.old) }
     ensures count { result ≡ min (count + 1) 5 }
     ensures held { take result held.new ≡ take 5 (insert O.Order.upto x (take count held.old)) }
 {
-    let last = place::<O>(&mut held[0..count], x);
+    let last = place::<O>(&mut held[..count], x);
     if count < 5 {
         held[count] = last;
         count + 1
@@ -143,6 +133,7 @@ fn join<O: Order>(held: &mut [u32; 5], count: usize, x: u32) -> usize
 }
 
 /// Puts `x` where it belongs in `held`, and returns the number that then comes last and finds no place.
+#[tactic(auto, using(crate::proofs::Pass::pass_takes, crate::proofs::Pass::pass_keeps))]
 fn place<O: Order>(held: &mut [u32], x: u32) -> u32
     requires { Ascending O.Order.upto held.old }
     ensures { held.new ++ (result ∷ []) ≡ insert O.Order.upto x held.old }
@@ -150,9 +141,7 @@ fn place<O: Order>(held: &mut [u32], x: u32) -> u32
     let mut carry = x;
     for k in held.iter_mut() {
         if O::comes_first(carry, *k) {
-            let next = *k;
-            *k = carry;
-            carry = next;
+            carry = replace(k, carry);
         }
     }
     carry

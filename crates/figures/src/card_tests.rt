@@ -8,29 +8,19 @@ use tariff::Fault;
 
 /// A refusal by its three numbers: row, layer, account.
 fn check_refused<T: Drop>(rt: &impl Abort, answer: Result<T, Fault>, row: u8) -> Result<(), Fail> {
-    match answer {
-        Ok(_) => Err(Fail::new("not refused")),
-        Err(fault) => {
-            assert_eq!(rt; fault.row.number(), row);
-            assert_eq!(rt; fault.layer.number(), 2);
-            assert_eq!(rt; fault.account, 255);
-            Ok(())
-        }
-    }
+    let fault = answer.err().ok_or("not refused")?;
+    assert_eq!(rt; fault.row.number(), row);
+    assert_eq!(rt; fault.layer.number(), 2);
+    assert_eq!(rt; fault.account_number(), 255);
+    Ok(())
 }
 
 fn made(year: u16, month: u8, before: u32) -> Result<PriceSeries, Fail> {
-    match PriceSeries::new(year, month, before) {
-        Ok(series) => Ok(series),
-        Err(_) => Err(Fail::new("a series is refused")),
-    }
+    PriceSeries::new(year, month, before).map_err(Fail::new)
 }
 
 fn entered(series: &mut PriceSeries, day: u8, price: u32) -> Result<(), Fail> {
-    match series.enter(day, price) {
-        Ok(()) => Ok(()),
-        Err(_) => Err(Fail::new("an entry is refused")),
-    }
+    series.enter(day, price).map_err(Fail::new)
 }
 
 #[test]
@@ -40,11 +30,16 @@ fn days_without_a_price_are_carried_on(rt: HostRuntime) -> Result<(), Fail> {
     entered(&mut series, 3, 29_000)?;
     entered(&mut series, 5, 32_000)?;
     assert_eq!(rt; series.published_days(), 2);
-    assert_eq!(rt; series.latest_price(1), 30_000);
-    assert_eq!(rt; series.latest_price(3), 29_000);
-    assert_eq!(rt; series.latest_price(4), 29_000);
-    assert_eq!(rt; series.latest_price(5), 32_000);
-    assert_eq!(rt; series.latest_price(28), 32_000);
+    let table = [
+        (1, 30_000),
+        (3, 29_000),
+        (4, 29_000),
+        (5, 32_000),
+        (28, 32_000),
+    ];
+    for (day, price) in table {
+        assert_eq!(rt; series.latest_price(day), price);
+    }
     Ok(())
 }
 
@@ -82,9 +77,7 @@ fn published() -> Result<Published, Fail> {
 /// A month in which no day was published: five times the doubles of the prices before it.
 #[test]
 fn card_of_a_month_without_published_days(rt: HostRuntime) -> Result<(), Fail> {
-    let Ok(card) = IndexCard::new(&published()?) else {
-        return Err(Fail::new("the card is refused"));
-    };
+    let card = IndexCard::new(&published()?).map_err(Fail::new)?;
     let working = card.working();
     assert_eq!(rt; working.malin.low, 282_500);
     assert_eq!(rt; working.topock.high, 300_000);
@@ -103,49 +96,49 @@ fn card_of_a_month_without_published_days(rt: HostRuntime) -> Result<(), Fail> {
 #[test]
 fn refusals_of_cards(rt: HostRuntime) -> Result<(), Fail> {
     let good = published()?;
-    check_refused(
-        &rt,
-        IndexCard::new(&Published {
-            topock_b: made(2027, 2, 0)?,
-            malin_supply: 0,
-            bid_week: 10_000_001,
-            ..good
-        }),
-        6,
-    )?;
-    check_refused(
-        &rt,
-        IndexCard::new(&Published {
-            malin_supply: 0,
-            bid_week: 10_000_001,
-            ..good
-        }),
-        10,
-    )?;
-    check_refused(
-        &rt,
-        IndexCard::new(&Published {
-            citygate_index: 10_000_001,
-            ..good
-        }),
-        10,
-    )?;
-    check_refused(
-        &rt,
-        IndexCard::new(&Published {
-            topock_supply: 100_000_001,
-            ..good
-        }),
-        10,
-    )?;
-    check_refused(
-        &rt,
-        IndexCard::new(&Published {
-            malin_supply: 0,
-            ..good
-        }),
-        15,
-    )?;
+    let table = [
+        (
+            Published {
+                topock_b: made(2027, 2, 0)?,
+                malin_supply: 0,
+                bid_week: 10_000_001,
+                ..good
+            },
+            6,
+        ),
+        (
+            Published {
+                malin_supply: 0,
+                bid_week: 10_000_001,
+                ..good
+            },
+            10,
+        ),
+        (
+            Published {
+                citygate_index: 10_000_001,
+                ..good
+            },
+            10,
+        ),
+        (
+            Published {
+                topock_supply: 100_000_001,
+                ..good
+            },
+            10,
+        ),
+        (
+            Published {
+                malin_supply: 0,
+                ..good
+            },
+            15,
+        ),
+    ];
+    for (wrong, row) in table {
+        check_refused(&rt, IndexCard::new(&wrong), row)?;
+    }
     assert!(rt;
         IndexCard::new(&Published {
             malin_supply: 0,
@@ -166,59 +159,31 @@ fn fixed_cards(rt: HostRuntime) -> Result<(), Fail> {
         two_over: 1_500_000_000,
         two_under: 1_500_000_000,
     };
-    let Ok(card) = FixedCard::new(2026, 3, most) else {
-        return Err(Fail::new("the card is refused"));
-    };
+    let card = FixedCard::new(2026, 3, most).map_err(Fail::new)?;
     assert_eq!(rt; card.terms().noncompliance, 1_000_000);
     assert_eq!(rt; card.terms().credit, 5_000);
     assert_eq!(rt; card.terms().tiers.two_over, 1_500_000_000);
     check_refused(&rt, FixedCard::new(2026, 0, most), 1)?;
-    check_refused(
-        &rt,
-        FixedCard::new(
-            2026,
-            3,
-            TierPrices {
-                one_over: 1_500_000_001,
-                ..most
-            },
-        ),
-        10,
-    )?;
-    check_refused(
-        &rt,
-        FixedCard::new(
-            2026,
-            3,
-            TierPrices {
-                one_under: 1_500_000_001,
-                ..most
-            },
-        ),
-        10,
-    )?;
-    check_refused(
-        &rt,
-        FixedCard::new(
-            2026,
-            3,
-            TierPrices {
-                two_over: 1_500_000_001,
-                ..most
-            },
-        ),
-        10,
-    )?;
-    check_refused(
-        &rt,
-        FixedCard::new(
-            2026,
-            3,
-            TierPrices {
-                two_under: 1_500_000_001,
-                ..most
-            },
-        ),
-        10,
-    )
+    let table = [
+        TierPrices {
+            one_over: 1_500_000_001,
+            ..most
+        },
+        TierPrices {
+            one_under: 1_500_000_001,
+            ..most
+        },
+        TierPrices {
+            two_over: 1_500_000_001,
+            ..most
+        },
+        TierPrices {
+            two_under: 1_500_000_001,
+            ..most
+        },
+    ];
+    for prices in table {
+        check_refused(&rt, FixedCard::new(2026, 3, prices), 10)?;
+    }
+    Ok(())
 }

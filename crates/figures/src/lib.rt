@@ -9,6 +9,7 @@ mod card_tests;
 #[cfg(test)]
 mod tests;
 
+/// The table of figures, which is proved; it has no code.
 fn table()
     ensures { WorkedFigures }
 {}

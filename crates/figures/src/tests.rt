@@ -1,70 +1,50 @@
 // Examples with published figures, and the edges of months, money, options and refusals.
-use balancing::{BalancingOption, FlowOrder, Monthly, Parts, SelfBalancing, TierPrices};
+use balancing::{
+    BalancingOption, FlowOrder, GasDay, Monthly, Parts, SelfBalancing, Statement, TierPrices,
+};
+use std::iter;
 use std::test::Fail;
-use tariff::{BillKind, Charge, Fault, Layer, Month, NO_ACCOUNT, Row, billed_cents, exact_amount};
+use tariff::{BillKind, Charge, Fault, Layer, Month, Row, billed_cents, exact_amount};
 
-/// A day's supply, and what it has above each limit.
-#[derive(Drop)]
-struct Day {
-    supply: u32,
-    daily: u32,
-    accumulated: u32,
-}
-
-/// A self-balancing customer with a demand of 50,000 Dth a day and a monthly quantity of 1,500,000 Dth.
+/// A self-balancing customer with a demand of 50,000 Dth a day and a monthly quantity of 1,500,000 Dth: each day's supply, and
+/// what the day has above each limit.
 #[test]
 fn four_days_of_a_self_balancing_customer(rt: HostRuntime) -> Result<(), Fail> {
     let days = [
-        Day {
-            supply: 60_000,
-            daily: 5_000,
-            accumulated: 0,
-        },
-        Day {
-            supply: 55_000,
-            daily: 0,
-            accumulated: 0,
-        },
-        Day {
-            supply: 55_000,
-            daily: 0,
-            accumulated: 5_000,
-        },
-        Day {
-            supply: 40_000,
-            daily: 5_000,
-            accumulated: 0,
-        },
+        (60_000, 5_000, 0),
+        (55_000, 0, 0),
+        (55_000, 0, 5_000),
+        (40_000, 5_000, 0),
     ];
     let mut running: i64 = 0;
-    for day in &days {
-        running = running.wrapping_add(day.supply as i64 - 50_000);
-        let accumulated = i32::try_from(running)?;
-        let excess = SelfBalancing.excess(
-            day.supply,
-            50_000,
-            FlowOrder::Absent,
-            1_500_000,
-            accumulated,
-        );
-        assert_eq!(rt; excess.daily, day.daily);
-        assert_eq!(rt; excess.accumulated, day.accumulated);
+    for (supply, daily, accumulated) in days {
+        running = running.wrapping_add(i64::from(supply) - 50_000);
+        let excess = SelfBalancing.excess(&GasDay {
+            receipts: supply,
+            usage: 50_000,
+            order: FlowOrder::Absent,
+            monthly_quantity: 1_500_000,
+            accumulated: i32::try_from(running)?,
+        });
+        assert_eq!(rt; excess.daily, daily);
+        assert_eq!(rt; excess.accumulated, accumulated);
     }
     assert_eq!(rt; running, 10_000);
     Ok(())
 }
 
 fn five_percent() -> Result<Monthly, Fail> {
-    match Monthly::new(5) {
-        Ok(option) => Ok(option),
-        Err(_) => Err(Fail::new("five percent is refused")),
-    }
+    Monthly::new(5).map_err(Fail::new)
 }
 
 /// Only the part in a tier has that tier's price: a hundred and one Dth under are not all priced at Tier II.
 #[test]
 fn each_part_has_the_price_of_its_own_tier(rt: HostRuntime) -> Result<(), Fail> {
-    let parts = five_percent()?.split(1_000, 0, -101);
+    let parts = five_percent()?.split(&Statement {
+        usage: 1_000,
+        monthly_quantity: 0,
+        imbalance: -101,
+    });
     let prices = TierPrices {
         one_over: 1_000_000,
         one_under: 4_000_000,
@@ -112,17 +92,18 @@ fn no_line_for_no_gas(rt: HostRuntime) {
 
 #[test]
 fn tolerances(rt: HostRuntime) -> Result<(), Fail> {
+    // Over numbers that are percentages, and no places of a list.
     for percent in 0..=255u8 {
         match Monthly::new(percent) {
             Ok(option) => {
-                assert!(rt; 3 <= percent && percent <= 5);
+                assert!(rt; (3..=5).contains(&percent));
                 assert_eq!(rt; option.tolerance.percent(), percent);
             }
             Err(fault) => {
-                assert!(rt; percent < 3 || percent > 5);
+                assert!(rt; !(3..=5).contains(&percent));
                 assert_eq!(rt; fault.row.number(), 1);
                 assert_eq!(rt; fault.layer.number(), 1);
-                assert_eq!(rt; fault.account, 255);
+                assert_eq!(rt; fault.account_number(), 255);
             }
         }
     }
@@ -136,13 +117,27 @@ fn tolerances(rt: HostRuntime) -> Result<(), Fail> {
 /// The largest values of the types are split and rounded too.
 #[test]
 fn edges_of_the_types(rt: HostRuntime) -> Result<(), Fail> {
-    let all_under = five_percent()?.split(0, u32::MAX, i32::MIN);
+    let all_under = five_percent()?.split(&Statement {
+        usage: 0,
+        monthly_quantity: u32::MAX,
+        imbalance: i32::MIN,
+    });
     assert_eq!(rt; all_under.kept, 0);
     assert_eq!(rt; all_under.tier_one, 0);
     assert_eq!(rt; all_under.tier_two, i32::MIN);
-    let all_kept = SelfBalancing.split(0, u32::MAX, 42_949_672);
+    let all_kept = SelfBalancing.split(&Statement {
+        usage: 0,
+        monthly_quantity: u32::MAX,
+        imbalance: 42_949_672,
+    });
     assert_eq!(rt; all_kept.kept, 42_949_672);
-    let excess = SelfBalancing.excess(u32::MAX, 0, FlowOrder::InEffect, 0, i32::MIN);
+    let excess = SelfBalancing.excess(&GasDay {
+        receipts: u32::MAX,
+        usage: 0,
+        order: FlowOrder::InEffect,
+        monthly_quantity: 0,
+        accumulated: i32::MIN,
+    });
     assert_eq!(rt; excess.daily, 0);
     assert_eq!(rt; excess.accumulated, 2_147_483_648);
     assert_eq!(rt;
@@ -156,50 +151,20 @@ fn edges_of_the_types(rt: HostRuntime) -> Result<(), Fail> {
     Ok(())
 }
 
-#[derive(Drop)]
-struct Rounding {
-    amount: i128,
-    cents: i128,
-}
-
 #[test]
 fn half_a_cent_goes_away_from_zero(rt: HostRuntime) {
     let table = [
-        Rounding {
-            amount: 0,
-            cents: 0,
-        },
-        Rounding {
-            amount: 4_999,
-            cents: 0,
-        },
-        Rounding {
-            amount: 5_000,
-            cents: 1,
-        },
-        Rounding {
-            amount: -4_999,
-            cents: 0,
-        },
-        Rounding {
-            amount: -5_000,
-            cents: -1,
-        },
-        Rounding {
-            amount: 14_999,
-            cents: 1,
-        },
-        Rounding {
-            amount: 15_000,
-            cents: 2,
-        },
-        Rounding {
-            amount: -3_765_000,
-            cents: -377,
-        },
+        (0, 0),
+        (4_999, 0),
+        (5_000, 1),
+        (-4_999, 0),
+        (-5_000, -1),
+        (14_999, 1),
+        (15_000, 2),
+        (-3_765_000, -377),
     ];
-    for row in &table {
-        assert_eq!(rt; billed_cents(row.amount).count, row.cents);
+    for (amount, cents) in table {
+        assert_eq!(rt; billed_cents(amount).count, cents);
     }
     assert_eq!(rt;
         Charge::new(BillKind::Credit, 1_000, 58_100).cents.count,
@@ -213,92 +178,48 @@ fn half_a_cent_goes_away_from_zero(rt: HostRuntime) {
     );
 }
 
-#[derive(Drop)]
-struct Length {
-    year: u16,
-    number: u8,
-    days: u8,
-}
-
 #[test]
 fn lengths_of_months(rt: HostRuntime) -> Result<(), Fail> {
     let table = [
-        Length {
-            year: 2000,
-            number: 1,
-            days: 31,
-        },
-        Length {
-            year: 2000,
-            number: 2,
-            days: 29,
-        },
-        Length {
-            year: 2001,
-            number: 2,
-            days: 28,
-        },
-        Length {
-            year: 2024,
-            number: 2,
-            days: 29,
-        },
-        Length {
-            year: 2026,
-            number: 4,
-            days: 30,
-        },
-        Length {
-            year: 2096,
-            number: 2,
-            days: 29,
-        },
-        Length {
-            year: 2099,
-            number: 2,
-            days: 28,
-        },
-        Length {
-            year: 2099,
-            number: 12,
-            days: 31,
-        },
+        (2000, 1, 31),
+        (2000, 2, 29),
+        (2001, 2, 28),
+        (2024, 2, 29),
+        (2026, 4, 30),
+        (2096, 2, 29),
+        (2099, 2, 28),
+        (2099, 12, 31),
     ];
-    for row in &table {
-        assert_eq!(rt;
-            Month::new(row.year, row.number)
-                .ok_or("no such month")?
-                .days(),
-            row.days
-        );
+    for (year, number, days) in table {
+        let month = Month::new(year, number).ok_or("no such month")?;
+        assert_eq!(rt; month.days(), days);
     }
-    assert!(rt; Month::new(1999, 12).is_none());
-    assert!(rt; Month::new(2100, 1).is_none());
-    assert!(rt; Month::new(2026, 0).is_none());
-    assert!(rt; Month::new(2026, 13).is_none());
+    for (year, number) in [(1999, 12), (2100, 1), (2026, 0), (2026, 13)] {
+        assert!(rt; Month::new(year, number).is_none());
+    }
     Ok(())
 }
 
 /// From January 2000 to December 2099 there are 1,200 months and 36,525 days.
 #[test]
 fn a_century_of_months(rt: HostRuntime) -> Result<(), Fail> {
-    let mut month = Month::new(2000, 1).ok_or("no January 2000")?;
-    assert!(rt; month.previous().is_none());
-    let mut days: u32 = 0;
-    let mut months: u32 = 0;
-    for _ in 0..1_300 {
-        days = days.wrapping_add(month.days() as u32);
-        months = months.wrapping_add(1);
-        let Some(next) = month.next() else {
-            break;
-        };
-        assert!(rt; next.previous().ok_or("nothing before")?.same_as(month));
-        assert!(rt; !next.same_as(month));
-        month = next;
+    let months: Vec<Month> = iter::successors(Month::new(2000, 1), |month| month.next())
+        .take(1_300)
+        .collect(rt.alloc())?;
+    let first = months.first().ok_or("no January 2000")?;
+    assert!(rt; first.previous().is_none());
+    for (month, next) in months.iter().zip(months.iter().skip(1)) {
+        assert!(rt; next.previous() == Some(*month));
+        assert!(rt; next != month);
     }
-    assert_eq!(rt; month.year(), 2099);
-    assert_eq!(rt; month.number(), 12);
-    assert_eq!(rt; months, 1_200);
+    let last = months.last().ok_or("no last month")?;
+    assert_eq!(rt; last.year(), 2099);
+    assert_eq!(rt; last.number(), 12);
+    assert_eq!(rt; months.len(), 1_200);
+    let days = months.iter().fold(
+        0u32,
+        |days, month| days.wrapping_add(u32::from(month.days())),
+    );
     assert_eq!(rt; days, 36_525);
     Ok(())
 }
@@ -317,17 +238,13 @@ fn printed_forms(rt: HostRuntime) -> Result<(), Fail> {
     let fault = Fault {
         row: Row::PastLimit,
         layer: Layer::Book,
-        account: 7,
+        account: Some(7),
     };
     assert_eq!(rt;
         format!(in heap; "{fault}")?.as_str(),
         "refusal 10 (book, account 7): a quantity or a price passes its limit"
     );
-    let none = Fault {
-        row: Row::NoSupply,
-        layer: Layer::Card,
-        account: NO_ACCOUNT,
-    };
+    let none = Fault::by_card(Row::NoSupply);
     assert_eq!(rt;
         format!(in heap; "{none}")?.as_str(),
         "refusal 15 (card): both supply amounts are zero"

@@ -1,12 +1,15 @@
 -- A folding, seen from the ledger.
-use Rattle.std.proofs.Common.{◌≡◌, ℕ, true, false, List, [], ◌∷◌, None, sym, refl, ap, ◌∙◌, arith}
+use Rattle.std.proofs.Common.{◌≡◌, ℕ, ◌<◌, true, false, List, [], ◌∷◌, get_or, None, Result, Ok, Err, sym, refl, ap, ◌∙◌, arith, Option}
 use lib.Seq.{set-get_or}
-use Rattle.tariff.specs.Faults.{Answer, done, refused}
+use Rattle.std.specs.Result.{IsErrAnd}
+use Rattle.std.proofs.lemmas.Bool.{lt-leb}
+use Rattle.tariff.specs.Faults.{Answer, done, refused, answer}
+use Rattle.tariff.specs.declared.fault.Fault.{Fault}
 use Rattle.page.specs.Folding.{folding_refusals, folding_answer, page_folded, joined, retired}
 use Rattle.page.specs.Pages.{blank}
-use Rattle.records.specs.Refusals.{Refusal, when, short, first_of, decided, after}
+use Rattle.records.specs.Refusals.{Refusal, when, short, first_of, decided, said, after}
 use Rattle.page.specs.declared.page.Page.{Page}
-use Rattle.ledger.specs.Calls.{folded}
+use Rattle.ledger.specs.Calls.{folding}
 use Rattle.ledger.specs.Ledgers.{page, with_page}
 use Rattle.ledger.specs.declared.ledger.Ledger.{Ledger}
 
@@ -34,30 +37,34 @@ pub value_done : {V : Type 0} (ts : List Refusal) (x v : V) → done x ≡ first
 value_done ts x v e = ap (value x) (e ∙ done_as ts x v v e)
 
 -- a call that a table refuses is refused in the same way whatever the value
-pub refused_as : {V W : Type 0} (ts : List Refusal) (n l a : ℕ) (v : V) (w : W) → refused n l a ≡ first_of ts v → refused n l a ≡ first_of ts w
+pub refused_as : {V W : Type 0} (ts : List Refusal) (n l : ℕ) (a : Option ℕ) (v : V) (w : W) → refused n l a ≡ first_of ts v → refused n l a ≡ first_of ts w
 refused_as [] n l a v w e = let z = ap is_done e in absurd (omega (arith, z))
 refused_as (when true m b ∷ ts) n l a v w e = ap (again w) e
 refused_as (when false m b ∷ ts) n l a v w e = refused_as ts n l a v w e
 refused_as (short true ∷ ts) n l a v w e = ap (again w) e
 refused_as (short false ∷ ts) n l a v w e = refused_as ts n l a v w e
 
-pub fold_done : (l : Ledger) (m a : ℕ) (x y : Page) → done x ≡ folding_answer m (page l m) a (page l a) → y ≡ page_folded m (page l m) a (page l a)
-    → (done None ≡ decided (folding_refusals m (page l m) a (page l a))) × (with_page (with_page l m y) a x ≡ after (decided (folding_refusals m (page l m) a (page l a))) (folded l m a) l)
-fold_done l m a x y e h =
+-- the page's folding is performed: so is the ledger's, with both pages replaced
+pub fold_done : (l : Ledger) (m a i j : ℕ) (x y : Page) → (i ≡ m) × (m < 64) → (j ≡ a) × (a < 64)
+    → done x ≡ folding_answer m (get_or l.pages i blank) a (get_or l.pages j blank) → y ≡ page_folded m (get_or l.pages i blank) a (get_or l.pages j blank)
+    → (done None ≡ (folding l m a).answer) × (with_page (with_page l i y) j x ≡ (folding l m a).ledger)
+fold_done l m a i j x y g h e p =
     let ts = folding_refusals m (page l m) a (page l a) in
-    let d : decided ts ≡ done None = done_as ts x (joined (page l a) (page l m)) None e in
-    let i : x ≡ joined (page l a) (page l m) = value_done ts x (joined (page l a) (page l m)) e in
-    let j : y ≡ retired (page l m) = h ∙ ap (λ v. after v (retired (page l m)) (page l m)) (sym e) in (
-      sym d,
-      ap (λ p. with_page (with_page l m p) a x) j ∙ ap (λ q. with_page (with_page l m (retired (page l m))) a q) i ∙ sym (ap (λ v. after v (folded l m a) l) d),
-    )
+    let e' : done x ≡ first_of ts (joined (page l a) (page l m)) = rw (g.0, h.0) at e in
+    let p' : y ≡ page_folded m (page l m) a (page l a) = rw (g.0, h.0) at p in
+    let d : decided ts ≡ done None = done_as ts x (joined (page l a) (page l m)) None e' in
+    let n : x ≡ joined (page l a) (page l m) = value_done ts x (joined (page l a) (page l m)) e' in
+    let o : y ≡ retired (page l m) = p' ∙ ap (λ v. after v (retired (page l m)) (page l m)) (sym e') in
+    rw (lt-leb 64 m g.1, lt-leb 64 a h.1, d, g.0, h.0, n, o) (refl, refl)
 
-pub fold_refused : (l : Ledger) (m a n k b : ℕ) (y : Page) → refused n k b ≡ folding_answer m (page l m) a (page l a) → y ≡ page_folded m (page l m) a (page l a)
-    → (refused n k b ≡ decided (folding_refusals m (page l m) a (page l a))) × (with_page l m y ≡ after (decided (folding_refusals m (page l m) a (page l a))) (folded l m a) l)
-fold_refused l m a n k b y e h =
+-- the page's folding is refused: so is the ledger's, and nothing changes
+pub fold_refused : (l : Ledger) (m a i j : ℕ) (f : Fault) (r : Result (Unit {0}) Fault) (y : Page) → (i ≡ m) × (m < 64) → (j ≡ a) × (a < 64)
+    → IsErrAnd r (λ e. e ≡ f) → answer (λ x. x) (Err f) ≡ folding_answer m (get_or l.pages i blank) a (get_or l.pages j blank) → y ≡ page_folded m (get_or l.pages i blank) a (get_or l.pages j blank)
+    → (said r ≡ (folding l m a).answer) × (with_page l i y ≡ (folding l m a).ledger)
+fold_refused l m a i j f (Ok u) y g h k e p = absurd k
+fold_refused l m a i j f (Err b) y g h k e p =
     let ts = folding_refusals m (page l m) a (page l a) in
-    let d : refused n k b ≡ decided ts = refused_as ts n k b (joined (page l a) (page l m)) None e in
-    let j : y ≡ page l m = h ∙ ap (λ v. after v (retired (page l m)) (page l m)) (sym e) in (
-      d,
-      ap (λ p. with_page l m p) j ∙ ap (λ ps. record { month = l.month; pages = ps; offers = l.offers; offered = l.offered }) (set-get_or l.pages m blank) ∙ ap (λ v. after v (folded l m a) l) d,
-    )
+    let e' : answer (λ x. x) (Err f) ≡ first_of ts (joined (page l a) (page l m)) = rw (g.0, h.0) at e in
+    let d : said (Err f) ≡ decided ts = refused_as ts _ _ _ (joined (page l a) (page l m)) None e' in
+    let o : y ≡ page l m = rw (g.0, h.0) at p ∙ ap (λ v. after v (retired (page l m)) (page l m)) (sym e') in
+    rw (lt-leb 64 m g.1, lt-leb 64 a h.1, ← d, g.0, o, k) (refl, ap (λ ps. record { month = l.month; pages = ps; offers = l.offers; offered = l.offered }) (set-get_or l.pages m blank))

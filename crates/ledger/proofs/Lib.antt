@@ -1,3 +1,2 @@
-pub mod Tables
 pub mod Folds
-pub mod Lowest
+pub mod Lines

@@ -34,8 +34,8 @@ opening_refusals l a k e d =
     no_such_account a
     ∷ when (outside 1 2 k) 1 no_account
     ∷ when (outside 1 2 e) 1 no_account
-    ∷ when (is_used (page l a)) 3 a
-    ∷ when (nat_lt most_a_month d) 10 a
+    ∷ when (is_used (page l a)) 3 (Some a)
+    ∷ when (nat_lt most_a_month d) 10 (Some a)
     ∷ []
 
 abbrev pub opening : Ledger → ℕ → ℕ → ℕ → ℕ → Outcome
@@ -72,13 +72,13 @@ offering_refusals l g gc t tc q =
     ∷ when (outside 1 2 gc) 1 no_account
     ∷ when (outside 1 2 tc) 1 no_account
     ∷ when (nat_lt q 1) 1 no_account
-    ∷ when (not (is_open (page l g))) 2 g
-    ∷ when (not (is_open (page l t))) 2 t
-    ∷ when (operating_on_noncore gc (page l g) || g == t) 4 g
-    ∷ when (operating_on_noncore tc (page l t)) 4 t
-    ∷ when (page l g).settled 8 g
-    ∷ when (page l t).settled 8 t
-    ∷ when (past (pos q)) 10 g
+    ∷ when (not (is_open (page l g))) 2 (Some g)
+    ∷ when (not (is_open (page l t))) 2 (Some t)
+    ∷ when (operating_on_noncore gc (page l g) || g == t) 4 (Some g)
+    ∷ when (operating_on_noncore tc (page l t)) 4 (Some t)
+    ∷ when (page l g).settled 8 (Some g)
+    ∷ when (page l t).settled 8 (Some t)
+    ∷ when (past (pos q)) 10 (Some g)
     ∷ when (nat_le 128 l.offered) 11 no_account
     ∷ []
 
@@ -102,13 +102,13 @@ abbrev pub accepting_refusals : Ledger → Offer → ℕ → ℕ → ℕ → Lis
 accepting_refusals l o t k room =
     no_such_account t
     ∷ when (nat_le 128 k) 1 no_account
-    ∷ when (not (is_open (page l t))) 2 t
-    ∷ when (open_to l o t k && not (is_open (page l o.giver))) 2 o.giver
-    ∷ when (not (open_to l o t k)) 5 t
-    ∷ when (page l t).settled 8 t
-    ∷ when (page l o.giver).settled 8 o.giver
-    ∷ when (past (more_in o.takes (page l t) o.quantity)) 10 t
-    ∷ when (past (less_in o.gives (page l o.giver) o.quantity)) 10 o.giver
+    ∷ when (not (is_open (page l t))) 2 (Some t)
+    ∷ when (open_to l o t k && not (is_open (page l o.giver))) 2 (Some o.giver)
+    ∷ when (not (open_to l o t k)) 5 (Some t)
+    ∷ when (page l t).settled 8 (Some t)
+    ∷ when (page l o.giver).settled 8 (Some o.giver)
+    ∷ when (past (more_in o.takes (page l t) o.quantity)) 10 (Some t)
+    ∷ when (past (less_in o.gives (page l o.giver) o.quantity)) 10 (Some o.giver)
     ∷ short (nat_lt room 1)
     ∷ []
 
@@ -172,8 +172,8 @@ abbrev pub closing_refusals : Rules → Rules → Terms → Ledger → ℕ → L
 closing_refusals f s t l room =
     when (not (same_month t.month l.month)) 6 no_account
     ∷ when (no_month (following l.month)) 6 no_account
-    ∷ when (nat_lt (lowest (behind (days_in l.month)) l.pages) 64) 7 (lowest (behind (days_in l.month)) l.pages)
-    ∷ when (nat_lt (lowest unsettled l.pages) 64) 8 (lowest unsettled l.pages)
+    ∷ when (nat_lt (lowest (behind (days_in l.month)) l.pages) 64) 7 (Some (lowest (behind (days_in l.month)) l.pages))
+    ∷ when (nat_lt (lowest unsettled l.pages) 64) 8 (Some (lowest unsettled l.pages))
     ∷ short (nat_lt room (length (all_lines t (credits_of f s) 0 l.pages)))
     ∷ []
 

@@ -1,5 +1,5 @@
 -- What a ledger holds: the running month, 64 pages, and the offers since the last closing.
-use Rattle.std.specs.Prelude.{ℕ, false, not, List, [], ◌∷◌, replicate, ℤ, pos, ◌+ℤ◌, Option, nat_le, slice_index_or, slice_set}
+use Rattle.std.specs.Prelude.{ℕ, false, not, List, [], ◌∷◌, replicate, ℤ, pos, ◌+ℤ◌, Some, Option, nat_le, slice_index_or, slice_set}
 use Rattle.tariff.specs.Faults.{Answer, no_account}
 use Rattle.tariff.specs.declared.month.Month.{Month}
 use Rattle.records.specs.declared.component.Component.TheVariants.{Statement}
@@ -25,7 +25,7 @@ page l a = slice_index_or l.pages a blank
 
 -- reading the page of an account: it must be open
 abbrev pub reading : Ledger → ℕ → Answer Page
-reading l a = first_of (when (nat_le 64 a) 1 no_account ∷ when (not (is_open (page l a))) 2 a ∷ []) (page l a)
+reading l a = first_of (when (nat_le 64 a) 1 no_account ∷ when (not (is_open (page l a))) 2 (Some a) ∷ []) (page l a)
 
 -- the ledger with another page for an account
 abbrev pub with_page : Ledger → ℕ → Page → Ledger

@@ -1,101 +1,69 @@
 // Closing: the month's excesses and credits are billed in account order, and every page is turned.
-ghost use Rattle.std.specs.Prelude.{◌≡◌, ℕ, ◌<◌, ◌≤◌, Bool, List, [], map, length, Ok, slice_index_or};
+ghost use Rattle.std.specs.Prelude.{◌≡◌, [], map, length, if◌then◌else◌, nat_lt, position};
 ghost use Rattle.cards.specs.declared.terms.Terms.{Terms};
-ghost use Rattle.page.specs.Closing.{behind, unsettled, turned, credits_of, closing_lines, all_lines};
-ghost use Rattle.page.specs.Pages.{blank};
+ghost use Rattle.page.specs.Closing.{behind, unsettled, turned, all_lines};
 ghost use Rattle.records.specs.Refusals.{said};
 ghost use Rattle.register.specs.Registers.{free, Wrote};
-ghost use Rattle.ledger.specs.Calls.{lowest, closing};
+ghost use Rattle.ledger.specs.Calls.{closing};
 
 use crate::ledger::Ledger;
 use balancing::BalancingOption;
 use cards::{Card, Terms};
-use page::{Credits, Page};
-use records::{BillLine, refusal};
+use page::{Credits, Options, Page};
+use records::BillLine;
 use register::{Full, Register};
-use tariff::{Fault, NO_ACCOUNT, Row};
+use tariff::{Fault, Row};
 
-/// The lowest account with days missing, and 64 where there is none.
-fn lowest_behind(pages: &[Page; 64], days: u8) -> u8
-    ensures { result ≡ lowest (behind days) pages.now }
+// Each search has a function of its own, whose clause says what it finds: with the searches inside `close` its proof did not close. One
+// function with the test as a closure is no plainer: its clause would have to tell of the closure what these say of a page.
+
+/// The lowest account with days missing, if there is one.
+fn lowest_behind(pages: &[Page; 64], days: u8) -> Option<usize>
+    ensures { result ≡ position (behind days) pages.now }
 {
-    for i in 0..64u8 {
-        if pages[i as usize].is_behind(days) {
-            return i;
-        }
-    }
-    64
+    pages.iter().position(|page| page.is_behind(days))
 }
 
-/// The lowest account that is not settled, and 64 where there is none.
-fn lowest_unsettled(pages: &[Page; 64]) -> u8
-    ensures { result ≡ lowest unsettled pages.now }
+/// The lowest account that is not settled, if there is one.
+fn lowest_unsettled(pages: &[Page; 64]) -> Option<usize>
+    ensures { result ≡ position unsettled pages.now }
 {
-    for i in 0..64u8 {
-        if pages[i as usize].is_unsettled() {
-            return i;
-        }
-    }
-    64
+    pages.iter().position(|page| page.is_unsettled())
 }
 
 /// How many lines closing writes.
 fn count_lines(pages: &[Page; 64], credits: &Credits) -> usize
     ensures { (t : Terms) → result ≡ length (all_lines t credits.now 0 pages.now) }
 {
-    let mut lines = 0;
-    for page in pages {
-        lines += page.closing_line_count(credits);
-    }
-    lines
+    pages
+        .iter()
+        .map(|page| page.closing_line_count(credits))
+        .sum()
 }
 
-/// Writes the lines of an account's page, for which there is room.
-fn bill_page(
-    pages: &[Page; 64],
-    account: u8,
-    terms: &Terms,
-    credits: &Credits,
-    bills: &mut Register<'_, BillLine>,
-)
-    requires account { account < 64 }
-    requires room { length (closing_lines terms.now credits.now account (slice_index_or pages.now account blank)) ≤ length (free bills.old) }
-    ensures { Wrote bills.old (closing_lines terms.now credits.now account (slice_index_or pages.now account blank)) bills.new }
-{
-    let _ = pages[account as usize].bill_closing(account, terms, credits, bills);
-}
-
-/// Writes the lines of all pages in account order, for which there is room.
+/// Writes the lines of all pages in account order, or none where the register has too few places.
 fn bill_pages(
     pages: &[Page; 64],
     terms: &Terms,
     credits: &Credits,
     bills: &mut Register<'_, BillLine>,
-)
-    requires { length (all_lines terms.now credits.now 0 pages.now) ≤ length (free bills.old) }
-    ensures { Wrote bills.old (all_lines terms.now credits.now 0 pages.now) bills.new }
+) -> Result<(), Full>
+    ensures answer { result ≡ (if nat_lt (length (free bills.old)) (length (all_lines terms.now credits.now 0 pages.now)) then Err (record {}) else Ok tt) }
+    ensures bills_after { Wrote bills.old (if nat_lt (length (free bills.old)) (length (all_lines terms.now credits.now 0 pages.now)) then [] else all_lines terms.now credits.now 0 pages.now) bills.new }
 {
-    for i in 0..64u8 {
-        bill_page(pages, i, terms, credits, bills);
+    bills.room_for(count_lines(pages, credits))?;
+    for (account, page) in pages.iter().enumerate() {
+        page.bill_closing(account as u8, terms, credits, bills)?;
     }
+    Ok(())
 }
 
 /// Turns every page.
 fn turn_pages(pages: &mut [Page; 64])
     ensures { pages.new ≡ map turned pages.old }
 {
-    for i in 0..64 {
-        pages[i].turn();
-    }
-}
-
-/// Whether the accounts of each option earn the credit.
-pub(crate) fn credits_of<A: BalancingOption, B: BalancingOption>(first: &A, second: &B) -> Credits
-    ensures { result ≡ credits_of (A.BalancingOption.rules first.now) (B.BalancingOption.rules second.now) }
-{
-    Credits {
-        first: first.earns(),
-        second: second.earns(),
+    for page in pages.iter_mut() {
+        page.turn();
     }
 }
 
@@ -103,33 +71,29 @@ impl Ledger {
     /// Closes the running month with a card of it.
     pub fn close<A: BalancingOption, B: BalancingOption, C: Card>(
         &mut self,
-        first: &A,
-        second: &B,
+        options: &Options<'_, A, B>,
         card: &C,
         bills: &mut Register<'_, BillLine>,
     ) -> Result<(), Fault>
-        ensures answer { said result ≡ (closing (A.BalancingOption.rules first.now) (B.BalancingOption.rules second.now) (C.Card.meaning card.now) self.old (length (free bills.old))).answer }
-        ensures ledger_after { self.new ≡ (closing (A.BalancingOption.rules first.now) (B.BalancingOption.rules second.now) (C.Card.meaning card.now) self.old (length (free bills.old))).ledger }
-        ensures bills_after { Wrote bills.old (closing (A.BalancingOption.rules first.now) (B.BalancingOption.rules second.now) (C.Card.meaning card.now) self.old (length (free bills.old))).bills bills.new }
+        ensures answer { said result ≡ (closing (A.BalancingOption.rules options.now.first.now) (B.BalancingOption.rules options.now.second.now) (C.Card.meaning card.now) self.old (length (free bills.old))).answer }
+        ensures ledger_after { self.new ≡ (closing (A.BalancingOption.rules options.now.first.now) (B.BalancingOption.rules options.now.second.now) (C.Card.meaning card.now) self.old (length (free bills.old))).ledger }
+        ensures bills_after { Wrote bills.old (closing (A.BalancingOption.rules options.now.first.now) (B.BalancingOption.rules options.now.second.now) (C.Card.meaning card.now) self.old (length (free bills.old))).bills bills.new }
     {
         let terms = card.terms();
-        if !terms.month.same_as(self.month) {
-            return Err(refusal(Row::OtherMonth, NO_ACCOUNT));
+        if terms.month != self.month {
+            return Err(Fault::by_book(Row::OtherMonth, None));
         }
-        let Some(next) = self.month.next() else {
-            return Err(refusal(Row::OtherMonth, NO_ACCOUNT));
-        };
-        let late = lowest_behind(&self.pages, self.month.days());
-        if late < 64 {
-            return Err(refusal(Row::WrongDay, late));
+        let next = self
+            .month
+            .next()
+            .ok_or(Fault::by_book(Row::OtherMonth, None))?;
+        if let Some(late) = lowest_behind(&self.pages, self.month.days()) {
+            return Err(Fault::by_book(Row::WrongDay, Some(late as u8)));
         }
-        let left = lowest_unsettled(&self.pages);
-        if left < 64 {
-            return Err(refusal(Row::WrongState, left));
+        if let Some(left) = lowest_unsettled(&self.pages) {
+            return Err(Fault::by_book(Row::WrongState, Some(left as u8)));
         }
-        let credits = credits_of(first, second);
-        bills.room_for(count_lines(&self.pages, &credits))?;
-        bill_pages(&self.pages, &terms, &credits, bills);
+        bill_pages(&self.pages, &terms, &options.credits(), bills)?;
         turn_pages(&mut self.pages);
         self.offered = 0;
         self.month = next;

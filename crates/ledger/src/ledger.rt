@@ -1,37 +1,43 @@
 // The ledger: the running month, the pages and the offers.
-ghost use Rattle.std.specs.Prelude.{◌≡◌, slice_index_or};
-ghost use Rattle.page.specs.Pages.{blank};
-ghost use Rattle.tariff.specs.Faults.{answer};
+ghost use Rattle.std.specs.Prelude.{◌≡◌, ◌<◌, ◌≤◌, None, MatchResult};
+ghost use Rattle.tariff.specs.Faults.{answer, by_book};
+ghost use Rattle.tariff.specs.declared.fault.Row.TheVariants.{Field};
 ghost use Rattle.ledger.specs.Ledgers.{fresh, page, reading, gas_on_all};
 
 use crate::offer::Offer;
 use page::Page;
-use records::{Component, refusal};
-use tariff::{Fault, Month, NO_ACCOUNT, Row};
+use records::Component;
+use tariff::{Fault, Month, Row};
 
 /// The running month, 64 pages, and the offers since the last closing.
 #[derive(Drop)]
 pub struct Ledger {
     pub(crate) month: Month,
     pub(crate) pages: [Page; 64],
+    // The book may not allocate, so that no call fails for want of memory: an array with a count, and no list that grows.
     pub(crate) offers: [Offer; 128],
     pub(crate) offered: u8,
 }
 
-/// The page of any number; a number past the last account has a blank one.
-fn page_in(pages: &[Page; 64], account: u8) -> Page
-    ensures { result ≡ slice_index_or pages.now account blank }
+/// The place of a number in a table; a number past the last place lies outside its values.
+pub(crate) fn place_in<T, const PLACES: usize>(
+    table: &[T; PLACES],
+    number: u8,
+) -> Result<usize, Fault>
+    ensures { MatchResult result (λ place. (place ≡ number) × (number < PLACES)) (λ fault. (fault ≡ by_book Field None) × (PLACES ≤ number)) }
 {
-    if account >= 64 {
-        return Page::blank();
+    let place = usize::from(number);
+    if place >= table.len() {
+        return Err(Fault::by_book(Row::Field, None));
     }
-    pages[account as usize]
+    Ok(place)
 }
 
 /// The gas on all pages.
 fn gas_in(pages: &[Page; 64]) -> i64
     ensures { result ≡ gas_on_all pages.now }
 {
+    // A loop: that an iterator's sum of signed numbers fits does not prove.
     let mut total = 0;
     for page in pages {
         total += page.gas_held();
@@ -71,19 +77,19 @@ impl Ledger {
     pub(crate) fn page_of(&self, account: u8) -> Page
         ensures { result ≡ page self.now account }
     {
-        page_in(&self.pages, account)
+        self.pages
+            .get(usize::from(account))
+            .copied()
+            .unwrap_or(Page::blank())
     }
 
     /// The page of an open account.
     pub fn page(&self, account: u8) -> Result<Page, Fault>
         ensures { answer (λ p. p) result ≡ reading self.now account }
     {
-        if account >= 64 {
-            return Err(refusal(Row::Field, NO_ACCOUNT));
-        }
-        let page = self.page_of(account);
+        let page = self.pages[place_in(&self.pages, account)?];
         if !page.is_open() {
-            return Err(refusal(Row::NotOpen, account));
+            return Err(Fault::by_book(Row::NotOpen, Some(account)));
         }
         Ok(page)
     }

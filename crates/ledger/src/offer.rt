@@ -9,5 +9,6 @@ pub struct Offer {
     pub taker: u8,
     pub takes: Component,
     pub quantity: u32,
+    // A mark, and no `Option` of the rest: an offer that was accepted keeps its fields.
     pub stands: bool,
 }

@@ -1,5 +1,5 @@
 -- Adjusting and stating: a signed quantity joins the running or the operating imbalance.
-use Rattle.std.specs.Prelude.{ℕ, not, List, [], ◌∷◌, ℤ, ◌+ℤ◌, Option}
+use Rattle.std.specs.Prelude.{ℕ, not, List, [], ◌∷◌, ℤ, ◌+ℤ◌, Some, Option}
 use Rattle.records.specs.declared.component.Component.TheVariants.{Operating}
 use Rattle.page.specs.Limits.{past_together}
 use Rattle.page.specs.Pages.{is_open, is_core, with_gas, with_running, with_held}
@@ -10,8 +10,8 @@ use Rattle.page.specs.declared.page.Page.{Page}
 -- adjusting the account a by q
 abbrev pub adjusting_refusals : Page → ℕ → ℤ → List Refusal
 adjusting_refusals p a q =
-    when (not (is_open p)) 2 a
-    ∷ when (past_together p.gas.running q) 10 a
+    when (not (is_open p)) 2 (Some a)
+    ∷ when (past_together p.gas.running q) 10 (Some a)
     ∷ []
 
 -- q joins the running imbalance
@@ -28,10 +28,10 @@ page_adjusted p a q = after (adjusting_answer p a q) (adjusted p q) p
 -- stating the operating quantity q of the account a
 abbrev pub stating_refusals : Page → ℕ → ℤ → List Refusal
 stating_refusals p a q =
-    when (not (is_open p)) 2 a
-    ∷ when (not (is_core p)) 4 a
-    ∷ when p.settled 8 a
-    ∷ when (past_together p.gas.operating q) 10 a
+    when (not (is_open p)) 2 (Some a)
+    ∷ when (not (is_core p)) 4 (Some a)
+    ∷ when p.settled 8 (Some a)
+    ∷ when (past_together p.gas.operating q) 10 (Some a)
     ∷ []
 
 -- q joins the operating imbalance

@@ -1,7 +1,7 @@
 -- Closing: what it bills on a page, and how it turns the page.
 use Rattle.std.specs.Prelude.{ℕ, suc, Bool, false, cond, not, ◌&&◌, List, [], ◌∷◌, ◌++◌, pos, ◌==◌}
 use Rattle.tariff.specs.declared.bill.BillKind.TheVariants.{DailyExcess, AccumulatedExcess, Credit}
-use Rattle.balancing.specs.Cashouts.{tier_line}
+use Rattle.tariff.specs.Bills.{tier_line}
 use Rattle.balancing.specs.Rules.{Rules}
 use Rattle.cards.specs.declared.terms.Terms.{Terms}
 use Rattle.records.specs.declared.lines.BillLine.{BillLine}

@@ -1,5 +1,5 @@
 -- Folding: a noncore member's page is added to a noncore agent's, and the member is retired.
-use Rattle.std.specs.Prelude.{ℕ, ◌+◌, Bool, true, not, ◌&&◌, ◌||◌, List, [], ◌∷◌, ◌+ℤ◌, ◌==◌, nat_lt}
+use Rattle.std.specs.Prelude.{ℕ, ◌+◌, Bool, true, not, ◌&&◌, ◌||◌, List, [], ◌∷◌, ◌+ℤ◌, ◌==◌, nat_lt, Some}
 use Rattle.records.specs.Accounts.{election_number}
 use Rattle.page.specs.Limits.{past, most_a_month, most_excess}
 use Rattle.page.specs.Pages.{is_open, is_core, no_gas_held, basis, nothing_posted}
@@ -65,13 +65,13 @@ unlike p q = not (election_number p.election == election_number q.election)
 -- folding the member m with the page p into the agent a with the page q
 abbrev pub folding_refusals : ℕ → Page → ℕ → Page → List Refusal
 folding_refusals m p a q =
-    when (not (is_open p)) 2 m
-    ∷ when (not (is_open q)) 2 a
-    ∷ when (is_core p || unlike p q || m == a) 4 m
-    ∷ when (is_core q) 4 a
-    ∷ when (nat_lt 0 p.posted.day) 7 m
-    ∷ when (nat_lt 0 q.posted.day) 7 a
-    ∷ when (past_page (joined q p)) 10 a
+    when (not (is_open p)) 2 (Some m)
+    ∷ when (not (is_open q)) 2 (Some a)
+    ∷ when (is_core p || unlike p q || m == a) 4 (Some m)
+    ∷ when (is_core q) 4 (Some a)
+    ∷ when (nat_lt 0 p.posted.day) 7 (Some m)
+    ∷ when (nat_lt 0 q.posted.day) 7 (Some a)
+    ∷ when (past_page (joined q p)) 10 (Some a)
     ∷ []
 
 -- the answer with the agent's page after it, and the member's page after it

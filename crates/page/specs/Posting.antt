@@ -1,18 +1,12 @@
 -- Posting: the next day of the running month.
-use Rattle.std.specs.Prelude.{ℕ, ◌+◌, Bool, cond, not, ◌||◌, List, [], ◌∷◌, ℤ, pos, ◌+ℤ◌, ◌-ℤ◌, Option, ◌==◌, nat_lt}
+use Rattle.std.specs.Prelude.{ℕ, ◌+◌, Bool, cond, not, ◌||◌, List, [], ◌∷◌, ℤ, pos, ◌+ℤ◌, ◌-ℤ◌, Some, Option, ◌==◌, nat_lt}
 use Rattle.tariff.specs.Faults.{Answer, no_account}
-use Rattle.balancing.specs.Rules.{Rules}
+use Rattle.balancing.specs.Rules.{Rules, order_of}
 use Rattle.balancing.specs.declared.option.Excess.{Excess}
-use Rattle.balancing.specs.declared.option.FlowOrder.{FlowOrder}
-use Rattle.balancing.specs.declared.option.FlowOrder.TheVariants.{Absent, InEffect}
 use Rattle.page.specs.Limits.{past, most_a_day, most_a_month, most_excess}
 use Rattle.page.specs.Pages.{is_open, with_running, basis}
 use Rattle.records.specs.Refusals.{Refusal, when, outside, decided, after}
 use Rattle.page.specs.declared.page.Page.{Page}
-
--- flag 1 is a flow order, 0 is none; any other number is refused before it is looked up
-abbrev pub order_of : ℕ → FlowOrder
-order_of n = cond (n == 1) InEffect Absent
 
 -- the running imbalance with a day's receipts r and usage u
 abbrev pub running_after : Page → ℕ → ℕ → ℤ
@@ -26,19 +20,27 @@ excess_of o p flag r u = o.excess r u (order_of flag) p.month.monthly_quantity (
 abbrev pub out_of_turn : Page → ℕ → ℕ → Bool
 out_of_turn p days d = not (d == p.posted.day + 1) || nat_lt days d
 
+-- the running imbalance, the month's usage or a sum of excesses would pass its limit
+abbrev pub past_day : Rules → Page → ℕ → ℕ → ℕ → Bool
+past_day o p flag r u =
+    past (running_after p r u)
+    || nat_lt most_a_month (p.month.usage + u)
+    || nat_lt most_excess (p.posted.daily_excess + (excess_of o p flag r u).daily)
+    || nat_lt most_excess (p.posted.accumulated_excess + (excess_of o p flag r u).accumulated)
+
 -- posting the day d of a month with so many days, with an order flag, for the account a
 abbrev pub posting_refusals : Rules → Page → ℕ → ℕ → ℕ → ℕ → ℕ → ℕ → List Refusal
 posting_refusals o p days a d flag r u =
     when (outside 1 31 d) 1 no_account
     ∷ when (nat_lt 1 flag) 1 no_account
-    ∷ when (not (is_open p)) 2 a
-    ∷ when (out_of_turn p days d) 7 a
-    ∷ when (nat_lt most_a_day r) 10 a
-    ∷ when (nat_lt most_a_day u) 10 a
-    ∷ when (past (running_after p r u)) 10 a
-    ∷ when (nat_lt most_a_month (p.month.usage + u)) 10 a
-    ∷ when (nat_lt most_excess (p.posted.daily_excess + (excess_of o p flag r u).daily)) 10 a
-    ∷ when (nat_lt most_excess (p.posted.accumulated_excess + (excess_of o p flag r u).accumulated)) 10 a
+    ∷ when (not (is_open p)) 2 (Some a)
+    ∷ when (out_of_turn p days d) 7 (Some a)
+    ∷ when (nat_lt most_a_day r) 10 (Some a)
+    ∷ when (nat_lt most_a_day u) 10 (Some a)
+    ∷ when (past (running_after p r u)) 10 (Some a)
+    ∷ when (nat_lt most_a_month (p.month.usage + u)) 10 (Some a)
+    ∷ when (nat_lt most_excess (p.posted.daily_excess + (excess_of o p flag r u).daily)) 10 (Some a)
+    ∷ when (nat_lt most_excess (p.posted.accumulated_excess + (excess_of o p flag r u).accumulated)) 10 (Some a)
     ∷ []
 
 -- a day entered: the running imbalance grows by receipts less usage, the month's usage by the usage, and the excesses join their sums

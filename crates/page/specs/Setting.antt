@@ -1,5 +1,5 @@
 -- Setting: another monthly quantity, before the month's first day is posted.
-use Rattle.std.specs.Prelude.{ℕ, not, List, [], ◌∷◌, Option, nat_lt}
+use Rattle.std.specs.Prelude.{ℕ, not, List, [], ◌∷◌, Some, Option, nat_lt}
 use Rattle.page.specs.Limits.{most_a_month}
 use Rattle.page.specs.Pages.{is_open, basis}
 use Rattle.tariff.specs.Faults.{Answer}
@@ -9,9 +9,9 @@ use Rattle.page.specs.declared.page.Page.{Page}
 -- setting the monthly quantity d of the account a
 abbrev pub setting_refusals : Page → ℕ → ℕ → List Refusal
 setting_refusals p a d =
-    when (not (is_open p)) 2 a
-    ∷ when (nat_lt 0 p.posted.day) 7 a
-    ∷ when (nat_lt most_a_month d) 10 a
+    when (not (is_open p)) 2 (Some a)
+    ∷ when (nat_lt 0 p.posted.day) 7 (Some a)
+    ∷ when (nat_lt most_a_month d) 10 (Some a)
     ∷ []
 
 -- the page with another monthly quantity

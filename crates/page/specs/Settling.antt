@@ -1,7 +1,7 @@
 -- Settling: the carryover moves on, the kept part of the statement is carried, and both tiers are billed.
 use Rattle.std.specs.Prelude.{ℕ, suc, ◌/◌, Bool, true, false, cond, not, ◌&&◌, List, [], ◌∷◌, ◌++◌, length, ℤ, pos, negsuc, ◌+ℤ◌, ◌-ℤ◌, neg_ℤ, Some, None, Option, ◌==◌, nat_le, nat_lt, unsigned_abs}
 use Rattle.tariff.specs.Faults.{Answer, no_account}
-use Rattle.tariff.specs.Months.{following, same_month}
+use Rattle.tariff.specs.Months.{follows}
 use Rattle.tariff.specs.declared.bill.Charge.{Charge}
 use Rattle.tariff.specs.declared.month.Month.{Month}
 use Rattle.balancing.specs.Cashouts.{tier_one_line, tier_two_line}
@@ -67,14 +67,6 @@ line_of a m (Some c) = record { account = a; month = m; charge = c } ∷ []
 abbrev pub tier_lines : Terms → ℕ → Parts → List BillLine
 tier_lines t a x = line_of a t.month (tier_one_line t.tiers x) ++ line_of a t.month (tier_two_line t.tiers x)
 
--- the month n comes next after m
-abbrev pub same_as : Option Month → Month → Bool
-same_as None n = false
-same_as (Some k) n = same_month k n
-
-abbrev pub follows : Month → Month → Bool
-follows m n = same_as (following m) n
-
 -- a carryover whose rest is this large is not cleared at once
 abbrev pub large_carryover : ℕ
 large_carryover = 5000
@@ -82,8 +74,8 @@ large_carryover = 5000
 -- carrying the parts x of the statement on, with so much room for bill lines
 abbrev pub carrying_refusals : Bool → Terms → Page → ℕ → Parts → ℕ → List Refusal
 carrying_refusals clear t p a x room =
-    when (past (left_over clear p.gas)) 10 a
-    ∷ when (past (carried_on clear p.gas x)) 10 a
+    when (past (left_over clear p.gas)) 10 (Some a)
+    ∷ when (past (carried_on clear p.gas x)) 10 (Some a)
     ∷ short (nat_lt room (length (tier_lines t a x)))
     ∷ []
 
@@ -91,11 +83,11 @@ carrying_refusals clear t p a x room =
 abbrev pub settling_refusals : Rules → Terms → Page → Month → ℕ → ℕ → ℕ → List Refusal
 settling_refusals o t p m a c room =
     when (nat_lt 1 c) 1 no_account
-    ∷ when (not (is_open p)) 2 a
-    ∷ when (c == 1 && not (is_core p)) 4 a
+    ∷ when (not (is_open p)) 2 (Some a)
+    ∷ when (c == 1 && not (is_core p)) 4 (Some a)
     ∷ when (not (follows t.month m)) 6 no_account
-    ∷ when p.settled 8 a
-    ∷ when (c == 1 && nat_le large_carryover (unsigned_abs (rest_of_carryover p.gas))) 9 a
+    ∷ when p.settled 8 (Some a)
+    ∷ when (c == 1 && nat_le large_carryover (unsigned_abs (rest_of_carryover p.gas))) 9 (Some a)
     ∷ carrying_refusals (c == 1) t p a (parts_of o p) room
 
 -- the answer, the page after it, and the bill lines that it writes

@@ -1,11 +1,10 @@
 // Adjusting and stating: a signed quantity joins the running or the operating imbalance.
-ghost use Rattle.std.specs.Prelude.{◌≡◌, ◌+ℤ◌};
+ghost use Rattle.std.specs.Prelude.{◌≡◌};
 ghost use Rattle.records.specs.Refusals.{said};
 ghost use Rattle.page.specs.Adjusting.{adjusting_answer, page_adjusted, stating_answer, page_stated};
 
-use crate::limits::{past_together, together};
+use crate::limits::together;
 use crate::page::Page;
-use records::refusal;
 use tariff::{Fault, Row};
 
 impl Page {
@@ -15,12 +14,10 @@ impl Page {
         ensures page_after { self.new ≡ page_adjusted self.old account quantity }
     {
         if !self.is_open() {
-            return Err(refusal(Row::NotOpen, account));
+            return Err(Fault::by_book(Row::NotOpen, Some(account)));
         }
-        if past_together(self.gas.running, quantity) {
-            return Err(refusal(Row::PastLimit, account));
-        }
-        self.gas.running = together(self.gas.running, quantity);
+        let past_limit = Fault::by_book(Row::PastLimit, Some(account));
+        self.gas.running = together(self.gas.running, quantity).ok_or(past_limit)?;
         Ok(())
     }
 
@@ -30,18 +27,16 @@ impl Page {
         ensures page_after { self.new ≡ page_stated self.old account quantity }
     {
         if !self.is_open() {
-            return Err(refusal(Row::NotOpen, account));
+            return Err(Fault::by_book(Row::NotOpen, Some(account)));
         }
         if !self.is_core() {
-            return Err(refusal(Row::WrongKind, account));
+            return Err(Fault::by_book(Row::WrongKind, Some(account)));
         }
         if self.settled {
-            return Err(refusal(Row::WrongState, account));
+            return Err(Fault::by_book(Row::WrongState, Some(account)));
         }
-        if past_together(self.gas.operating, quantity) {
-            return Err(refusal(Row::PastLimit, account));
-        }
-        self.gas.operating = together(self.gas.operating, quantity);
+        let past_limit = Fault::by_book(Row::PastLimit, Some(account));
+        self.gas.operating = together(self.gas.operating, quantity).ok_or(past_limit)?;
         Ok(())
     }
 }

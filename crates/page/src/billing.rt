@@ -1,27 +1,24 @@
 // Bill lines of charges that may be absent, written to a register.
-ghost use Rattle.std.specs.Prelude.{◌≡◌, ℕ, ◌≤◌, ◌++◌, length};
+ghost use Rattle.std.specs.Prelude.{◌≡◌, ℕ, ◌≤◌, [], length, if◌then◌else◌, Ok, Err, nat_lt};
+ghost use Rattle.std.specs.List.{flat_map};
 ghost use Rattle.tariff.specs.declared.month.Month.{Month};
 ghost use Rattle.register.specs.Registers.{Wrote, free};
 ghost use Rattle.page.specs.Settling.{line_of};
 
 use records::BillLine;
-use register::Register;
+use register::{Full, Register};
 use tariff::{Charge, Month};
 
-/// How many lines two charges have.
-pub(crate) fn line_count(one: &Option<Charge>, other: &Option<Charge>) -> usize
-    ensures { (a : ℕ) (m : Month) → result ≡ length (line_of a m one.now ++ line_of a m other.now) }
+/// How many lines charges have.
+fn line_count(charges: &[Option<Charge>]) -> usize
+    ensures { (a : ℕ) (m : Month) → result ≡ length (flat_map (line_of a m) charges.now) }
 {
-    one.is_some() as usize + other.is_some() as usize
+    charges.iter().filter(|charge| charge.is_some()).count()
 }
 
+// Account and month go together through this file alone; a struct of both would be unpacked at each line.
 /// Writes the line of a charge, for which there is room.
-pub(crate) fn put(
-    account: u8,
-    month: Month,
-    charge: &Option<Charge>,
-    bills: &mut Register<'_, BillLine>,
-)
+fn put(account: u8, month: Month, charge: &Option<Charge>, bills: &mut Register<'_, BillLine>)
     requires { length (line_of account month charge.now) ≤ length (free bills.old) }
     ensures { Wrote bills.old (line_of account month charge.now) bills.new }
 {
@@ -34,33 +31,32 @@ pub(crate) fn put(
     }
 }
 
-/// Writes the lines of two charges, for which there is room.
-pub(crate) fn put_both(
+/// Writes the lines of charges, for which there is room.
+fn put_all(
     account: u8,
     month: Month,
-    one: &Option<Charge>,
-    other: &Option<Charge>,
+    charges: &[Option<Charge>],
     bills: &mut Register<'_, BillLine>,
 )
-    requires { length (line_of account month one.now ++ line_of account month other.now) ≤ length (free bills.old) }
-    ensures { Wrote bills.old (line_of account month one.now ++ line_of account month other.now) bills.new }
+    requires { length (flat_map (line_of account month) charges.now) ≤ length (free bills.old) }
+    ensures { Wrote bills.old (flat_map (line_of account month) charges.now) bills.new }
 {
-    put(account, month, one, bills);
-    put(account, month, other, bills);
+    for charge in charges {
+        put(account, month, charge, bills);
+    }
 }
 
-/// Writes the lines of three charges, for which there is room.
-pub(crate) fn put_three(
+/// Writes the lines of charges, or none where the register has too few places.
+pub(crate) fn bill(
     account: u8,
     month: Month,
-    one: &Option<Charge>,
-    two: &Option<Charge>,
-    three: &Option<Charge>,
+    charges: &[Option<Charge>],
     bills: &mut Register<'_, BillLine>,
-)
-    requires { length (line_of account month one.now ++ (line_of account month two.now ++ line_of account month three.now)) ≤ length (free bills.old) }
-    ensures { Wrote bills.old (line_of account month one.now ++ (line_of account month two.now ++ line_of account month three.now)) bills.new }
+) -> Result<(), Full>
+    ensures answer { result ≡ (if nat_lt (length (free bills.old)) (length (flat_map (line_of account month) charges.now)) then Err (record {}) else Ok tt) }
+    ensures bills_after { Wrote bills.old (if nat_lt (length (free bills.old)) (length (flat_map (line_of account month) charges.now)) then [] else flat_map (line_of account month) charges.now) bills.new }
 {
-    put(account, month, one, bills);
-    put_both(account, month, two, three, bills);
+    bills.room_for(line_count(charges))?;
+    put_all(account, month, charges, bills);
+    Ok(())
 }

@@ -1,13 +1,12 @@
 // Closing: what it bills on a page, and how it turns the page.
-ghost use Rattle.std.specs.Prelude.{◌≡◌, ℕ, ◌≤◌, true, [], length, pos, if◌then◌else◌, Ok, Err, nat_lt};
+ghost use Rattle.std.specs.Prelude.{◌≡◌, ℕ, ◌≤◌, ◌∷◌, [], length, pos, if◌then◌else◌, Ok, Err, nat_lt, count_by};
 ghost use Rattle.cards.specs.declared.terms.Terms.{Terms};
 ghost use Rattle.register.specs.Registers.{Wrote, free};
-ghost use Rattle.balancing.specs.Cashouts.{tier_line};
+ghost use Rattle.tariff.specs.Bills.{tier_line};
 ghost use Rattle.tariff.specs.declared.bill.BillKind.TheVariants.{DailyExcess, AccumulatedExcess, Credit};
-ghost use Rattle.page.specs.Pages.{is_open};
 ghost use Rattle.page.specs.Closing.{behind, credited, closing_lines, unsettled, turned};
 
-use crate::billing::put_three;
+use crate::billing::bill;
 use crate::page::{Page, Posted};
 use cards::Terms;
 use records::{BillLine, Election};
@@ -21,14 +20,11 @@ pub struct Credits {
     pub second: bool,
 }
 
-/// What is billed for a quantity, if there is any.
-fn charged(kind: BillKind, quantity: u32, price: u32) -> Option<Charge>
-    ensures { result ≡ tier_line kind (pos quantity) price }
+/// How many of the quantities are above 0.
+fn count_above_zero(quantities: &[u32]) -> usize
+    ensures { result ≡ count_by (λ q. nat_lt 0 q) quantities.now }
 {
-    if quantity == 0 {
-        return None;
-    }
-    Some(Charge::new(kind, quantity as i64, price))
+    quantities.iter().filter(|quantity| **quantity > 0).count()
 }
 
 impl Page {
@@ -57,11 +53,7 @@ impl Page {
             self.gas.carried = 0;
             self.statement = self.month;
             self.month.usage = 0;
-            self.posted = Posted {
-                day: 0,
-                daily_excess: 0,
-                accumulated_excess: 0,
-            };
+            self.posted = Posted::default();
         }
     }
 
@@ -69,11 +61,23 @@ impl Page {
     pub fn credited_usage(&self, credits: &Credits) -> u32
         ensures { result ≡ credited credits.now self.now }
     {
+        // A match on the two fields by name: an array of two would want a number for the election.
         let earns = match self.election {
             Election::First => credits.first,
             Election::Second => credits.second,
         };
         if earns { self.month.usage } else { 0 }
+    }
+
+    /// The quantities that closing bills on an open page: both sums of excesses, then the usage on which the credit is given.
+    fn billed(&self, credits: &Credits) -> [u32; 3]
+        ensures { result ≡ self.now.posted.daily_excess ∷ self.now.posted.accumulated_excess ∷ credited credits.now self.now ∷ [] }
+    {
+        [
+            self.posted.daily_excess,
+            self.posted.accumulated_excess,
+            self.credited_usage(credits),
+        ]
     }
 
     /// How many lines closing writes for a page.
@@ -84,47 +88,10 @@ impl Page {
         if !self.is_open() {
             return 0;
         }
-        let mut lines = 0;
-        if self.posted.daily_excess > 0 {
-            lines += 1;
-        }
-        if self.posted.accumulated_excess > 0 {
-            lines += 1;
-        }
-        if self.credited_usage(credits) > 0 {
-            lines += 1;
-        }
-        lines
+        count_above_zero(&self.billed(credits))
     }
 
-    /// Writes the lines of an open page, for which there is room.
-    fn bill_open(
-        &self,
-        account: u8,
-        terms: &Terms,
-        credits: &Credits,
-        bills: &mut Register<'_, BillLine>,
-    )
-        requires opened { is_open self.now ≡ true }
-        requires room { length (closing_lines terms.now credits.now account self.now) ≤ length (free bills.old) }
-        ensures { Wrote bills.old (closing_lines terms.now credits.now account self.now) bills.new }
-    {
-        let Posted {
-            daily_excess,
-            accumulated_excess,
-            ..
-        } = self.posted;
-        let usage = self.credited_usage(credits);
-        let daily = charged(BillKind::DailyExcess, daily_excess, terms.noncompliance);
-        let accumulated = charged(
-            BillKind::AccumulatedExcess,
-            accumulated_excess,
-            terms.noncompliance,
-        );
-        let credit = charged(BillKind::Credit, usage, terms.credit);
-        put_three(account, terms.month, &daily, &accumulated, &credit, bills);
-    }
-
+    // The card's terms and the credits stay apart: the lines are counted from the credits alone, whatever the card is.
     /// Writes the lines of the page at closing, or none where the register has too few places.
     pub fn bill_closing(
         &self,
@@ -136,10 +103,19 @@ impl Page {
         ensures answer { result ≡ (if nat_lt (length (free bills.old)) (length (closing_lines terms.now credits.now account self.now)) then Err (record {}) else Ok tt) }
         ensures bills_after { Wrote bills.old (if nat_lt (length (free bills.old)) (length (closing_lines terms.now credits.now account self.now)) then [] else closing_lines terms.now credits.now account self.now) bills.new }
     {
-        bills.room_for(self.closing_line_count(credits))?;
-        if self.is_open() {
-            self.bill_open(account, terms, credits, bills);
+        if !self.is_open() {
+            return Ok(());
         }
-        Ok(())
+        let [daily, accumulated, usage] = self.billed(credits);
+        let charges = [
+            Charge::for_gas(BillKind::DailyExcess, i64::from(daily), terms.noncompliance),
+            Charge::for_gas(
+                BillKind::AccumulatedExcess,
+                i64::from(accumulated),
+                terms.noncompliance,
+            ),
+            Charge::for_gas(BillKind::Credit, i64::from(usage), terms.credit),
+        ];
+        bill(account, terms.month, &charges, bills)
     }
 }

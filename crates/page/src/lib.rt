@@ -6,6 +6,7 @@ mod billing;
 mod closing;
 mod folding;
 mod limits;
+mod options;
 mod page;
 mod posting;
 mod setting;
@@ -14,4 +15,5 @@ mod trading;
 
 pub use closing::Credits;
 pub use limits::past_limit;
+pub use options::Options;
 pub use page::{Basis, Gas, Page, Posted};

@@ -1,11 +1,12 @@
 // A page of the book.
-ghost use Rattle.std.specs.Prelude.{◌≡◌, ◌≤◌, ◌+ℤ◌, unsigned_abs};
+ghost use Rattle.std.specs.Prelude.{◌≡◌, ◌≤◌, unsigned_abs};
 ghost use Rattle.page.specs.Pages.{blank, is_open, is_used, is_core, gas_on, held_in, started};
 
+use crate::limits::both;
 use records::{Component, Election, Kind, Status};
 
 /// The five quantities of a page, in Dth; over-delivery is positive.
-#[derive(Clone, Copy)]
+#[derive(Clone, Copy, Default)]
 pub struct Gas {
     pub running: i32,
     pub statement: i32,
@@ -15,15 +16,16 @@ pub struct Gas {
 }
 
 /// What an imbalance is measured by: a month's usage and its monthly quantity.
-#[derive(Clone, Copy)]
+#[derive(Clone, Copy, Default)]
 pub struct Basis {
     pub usage: u32,
     pub monthly_quantity: u32,
 }
 
 /// What a month's posted days left: the last day, and both sums of excesses.
-#[derive(Clone, Copy)]
+#[derive(Clone, Copy, Default)]
 pub struct Posted {
+    // A count of the days posted so far, 0 before the first.
     pub day: u8,
     pub daily_excess: u32,
     pub accumulated_excess: u32,
@@ -35,27 +37,12 @@ pub struct Page {
     pub status: Status,
     pub kind: Kind,
     pub election: Election,
+    // A state, beside no value that it concerns: a page that is settled and one that is not have the same fields.
     pub settled: bool,
     pub gas: Gas,
     pub month: Basis,
     pub posted: Posted,
     pub statement: Basis,
-}
-
-impl Gas {
-    fn running_and_statement(&self) -> i64
-        ensures value { result ≡ self.now.running +ℤ self.now.statement }
-        ensures bound { unsigned_abs result ≤ 4294967296 }
-    {
-        self.running as i64 + self.statement as i64
-    }
-
-    fn operating_and_carryover(&self) -> i64
-        ensures value { result ≡ self.now.operating +ℤ self.now.carryover }
-        ensures bound { unsigned_abs result ≤ 4294967296 }
-    {
-        self.operating as i64 + self.carryover as i64
-    }
 }
 
 impl Page {
@@ -68,26 +55,10 @@ impl Page {
             kind: Kind::Noncore,
             election: Election::First,
             settled: false,
-            gas: Gas {
-                running: 0,
-                statement: 0,
-                operating: 0,
-                carryover: 0,
-                carried: 0,
-            },
-            month: Basis {
-                usage: 0,
-                monthly_quantity: 0,
-            },
-            posted: Posted {
-                day: 0,
-                daily_excess: 0,
-                accumulated_excess: 0,
-            },
-            statement: Basis {
-                usage: 0,
-                monthly_quantity: 0,
-            },
+            gas: Gas::default(),
+            month: Basis::default(),
+            posted: Posted::default(),
+            statement: Basis::default(),
         }
     }
 
@@ -100,26 +71,11 @@ impl Page {
             kind,
             election,
             settled: true,
-            gas: Gas {
-                running: 0,
-                statement: 0,
-                operating: 0,
-                carryover: 0,
-                carried: 0,
-            },
             month: Basis {
                 usage: 0,
                 monthly_quantity,
             },
-            posted: Posted {
-                day: 0,
-                daily_excess: 0,
-                accumulated_excess: 0,
-            },
-            statement: Basis {
-                usage: 0,
-                monthly_quantity: 0,
-            },
+            ..Page::blank()
         }
     }
 
@@ -127,32 +83,21 @@ impl Page {
     pub fn is_open(&self) -> bool
         ensures { result ≡ is_open self.now }
     {
-        match self.status {
-            Status::Unused => false,
-            Status::Open => true,
-            Status::Folded => false,
-        }
+        self.status == Status::Open
     }
 
     /// Whether the account's number was used: it is open, or folded.
     pub fn is_used(&self) -> bool
         ensures { result ≡ is_used self.now }
     {
-        match self.status {
-            Status::Unused => false,
-            Status::Open => true,
-            Status::Folded => true,
-        }
+        self.status != Status::Unused
     }
 
     /// Whether the account is a core group.
     pub fn is_core(&self) -> bool
         ensures { result ≡ is_core self.now }
     {
-        match self.kind {
-            Kind::Noncore => false,
-            Kind::Core => true,
-        }
+        self.kind == Kind::Core
     }
 
     /// The gas on the page: its five quantities together.
@@ -160,9 +105,9 @@ impl Page {
         ensures value { result ≡ gas_on self.now }
         ensures bound { unsigned_abs result ≤ 12884901888 }
     {
-        let settled_later = self.gas.running_and_statement();
-        let core_only = self.gas.operating_and_carryover();
-        settled_later + core_only + self.gas.carried as i64
+        let settled_later = both(&self.gas.running, &self.gas.statement);
+        let core_only = both(&self.gas.operating, &self.gas.carryover);
+        settled_later + core_only + i64::from(self.gas.carried)
     }
 
     /// What a component holds.

@@ -3,8 +3,8 @@ ghost use Rattle.std.specs.Prelude.{◌≡◌};
 ghost use Rattle.records.specs.Refusals.{said};
 ghost use Rattle.page.specs.Setting.{setting_answer, page_set};
 
+use crate::limits::{MOST_A_MONTH, at_most};
 use crate::page::Page;
-use records::refusal;
 use tariff::{Fault, Row};
 
 impl Page {
@@ -14,15 +14,13 @@ impl Page {
         ensures page_after { self.new ≡ page_set self.old account monthly_quantity }
     {
         if !self.is_open() {
-            return Err(refusal(Row::NotOpen, account));
+            return Err(Fault::by_book(Row::NotOpen, Some(account)));
         }
         if self.posted.day > 0 {
-            return Err(refusal(Row::WrongDay, account));
+            return Err(Fault::by_book(Row::WrongDay, Some(account)));
         }
-        if monthly_quantity > 100_000_000 {
-            return Err(refusal(Row::PastLimit, account));
-        }
-        self.month.monthly_quantity = monthly_quantity as u32;
+        let past_limit = Fault::by_book(Row::PastLimit, Some(account));
+        self.month.monthly_quantity = at_most(MOST_A_MONTH, monthly_quantity).ok_or(past_limit)?;
         Ok(())
     }
 }

@@ -1,28 +1,20 @@
 // Settling: the carryover moves on, the kept part of the statement is carried, and both tiers are billed.
-ghost use Rattle.std.specs.Prelude.{◌≡◌, ◌≤◌, false, not, ◌&&◌, [], length, if◌then◌else◌, Ok, Err, ◌==◌, nat_le, nat_lt, unsigned_abs};
+ghost use Rattle.std.specs.Prelude.{◌≡◌, ◌≤◌, not, ◌&&◌, ◌||◌, [], length, if◌then◌else◌, Some, None, Ok, Err, ◌==◌, nat_le, nat_lt, unsigned_abs};
 ghost use Rattle.register.specs.Registers.{Wrote, free};
 ghost use Rattle.page.specs.Limits.{past};
 ghost use Rattle.page.specs.Pages.{elected, is_core};
 ghost use Rattle.records.specs.Refusals.{said, decided, after};
-ghost use Rattle.page.specs.Settling.{joined_carryover, twelfth, rest_of_carryover, moved_on, left_over, parts_of, carried_on, carrying_refusals, settled_page, tier_lines, follows, large_carryover, settling_answer, page_settled, settling_lines};
+ghost use Rattle.page.specs.Settling.{joined_carryover, rest_of_carryover, moved_on, left_over, parts_of, carried_on, carrying_refusals, settled_gas, settled_page, tier_lines, large_carryover, settling_answer, page_settled, settling_lines};
 
-use crate::billing::{line_count, put_both};
+use crate::billing::bill;
+use crate::limits::{both, within};
+use crate::options::Options;
 use crate::page::{Basis, Gas, Page};
-use balancing::{BalancingOption, Parts};
+use balancing::{BalancingOption, Parts, Statement};
 use cards::Terms;
-use records::{BillLine, Election, refusal};
+use records::BillLine;
 use register::{Full, Register};
-use tariff::{Fault, Month, NO_ACCOUNT, Row};
-
-/// Whether a month comes next after another.
-fn follows(card: &Month, running: Month) -> bool
-    ensures { result ≡ follows card.now running }
-{
-    match card.next() {
-        Some(next) => next.same_as(running),
-        None => false,
-    }
-}
+use tariff::{Fault, Month, Row};
 
 /// Writes the lines of both tiers, or none where the register has too few places.
 fn bill_tiers(
@@ -35,9 +27,7 @@ fn bill_tiers(
     ensures bills_after { Wrote bills.old (if nat_lt (length (free bills.old)) (length (tier_lines terms.now account parts.now)) then [] else tier_lines terms.now account parts.now) bills.new }
 {
     let due = terms.tiers.cash_out(parts);
-    bills.room_for(line_count(&due.tier_one, &due.tier_two))?;
-    put_both(account, terms.month, &due.tier_one, &due.tier_two, bills);
-    Ok(())
+    bill(account, terms.month, &[due.tier_one, due.tier_two], bills)
 }
 
 impl Gas {
@@ -46,130 +36,81 @@ impl Gas {
         ensures value { result ≡ joined_carryover self.now }
         ensures bound { unsigned_abs result ≤ 4294967296 }
     {
-        self.carryover as i64 + self.operating as i64
+        both(&self.carryover, &self.operating)
     }
 
-    /// A twelfth of it, its fraction dropped.
-    fn twelfth(&self) -> i64
-        ensures value { result ≡ twelfth (joined_carryover self.now) }
-        ensures bound { unsigned_abs result ≤ 4294967296 }
-    {
-        self.joined_carryover() / 12
-    }
-
-    /// What is left of it without the twelfth.
-    fn rest_of_carryover(&self) -> i64
-        ensures value { result ≡ rest_of_carryover self.now }
-        ensures bound { unsigned_abs result ≤ 8589934592 }
-    {
-        self.joined_carryover() - self.twelfth()
-    }
-
-    /// What moves on: a twelfth, or all of it where it is cleared.
+    /// What moves on: a twelfth of it, its fraction dropped, or all of it where it is cleared.
     fn moved_on(&self, clear: bool) -> i64
         ensures value { result ≡ moved_on clear self.now }
         ensures bound { unsigned_abs result ≤ 4294967296 }
     {
         if clear {
-            self.joined_carryover()
-        } else {
-            self.twelfth()
+            return self.joined_carryover();
         }
+        self.joined_carryover() / 12
     }
 
-    /// What is left over: the rest, or nothing where it is cleared.
+    /// What is left over of it then.
     fn left_over(&self, clear: bool) -> i64
-        ensures value { result ≡ left_over clear self.now }
-        ensures bound { unsigned_abs result ≤ 8589934592 }
+        ensures { result ≡ left_over clear self.now }
     {
-        if clear { 0 } else { self.rest_of_carryover() }
+        self.joined_carryover() - self.moved_on(clear)
     }
 
     /// What is carried once what moves on and the kept part have joined it.
     fn carried_on(&self, clear: bool, parts: &Parts) -> i64
         ensures { result ≡ carried_on clear self.now parts.now }
     {
-        self.carried as i64 + self.moved_on(clear) + parts.kept as i64
+        i64::from(self.carried) + self.moved_on(clear) + i64::from(parts.kept)
     }
 
-    /// Whether what is left over passes the limit.
-    fn left_over_passes(&self, clear: bool) -> bool
-        ensures { result ≡ past (left_over clear self.now) }
+    /// The gas once the carryover and the kept part have moved on and the statement is empty, within the limits.
+    fn settled(&self, clear: bool, parts: &Parts) -> Option<Gas>
+        ensures { result ≡ (if past (left_over clear self.now) || past (carried_on clear self.now parts.now) then None else Some (settled_gas clear self.now parts.now)) }
     {
-        self.left_over(clear).unsigned_abs() > 100_000_000
-    }
-
-    /// Whether what is carried on passes the limit.
-    fn carried_on_passes(&self, clear: bool, parts: &Parts) -> bool
-        ensures { result ≡ past (carried_on clear self.now parts.now) }
-    {
-        self.carried_on(clear, parts).unsigned_abs() > 100_000_000
-    }
-
-    /// What is left over, which keeps the limit.
-    fn carryover_after(&self, clear: bool) -> i32
-        requires { past (left_over clear self.now) ≡ false }
-        ensures { result ≡ left_over clear self.now }
-    {
-        self.left_over(clear) as i32
-    }
-
-    /// What is carried on, which keeps the limit.
-    fn carried_after(&self, clear: bool, parts: &Parts) -> i32
-        requires { past (carried_on clear self.now parts.now) ≡ false }
-        ensures { result ≡ carried_on clear self.now parts.now }
-    {
-        self.carried_on(clear, parts) as i32
+        Some(Gas {
+            running: self.running,
+            carryover: within(self.left_over(clear))?,
+            carried: within(self.carried_on(clear, parts))?,
+            ..Gas::default()
+        })
     }
 }
 
 impl Page {
     /// The parts of the statement's imbalance under the elected option.
-    pub fn parts<A: BalancingOption, B: BalancingOption>(&self, first: &A, second: &B) -> Parts
-        ensures { result ≡ parts_of (elected (A.BalancingOption.rules first.now) (B.BalancingOption.rules second.now) self.now) self.now }
+    pub fn parts<A: BalancingOption, B: BalancingOption>(
+        &self,
+        options: &Options<'_, A, B>,
+    ) -> Parts
+        ensures { result ≡ parts_of (elected (A.BalancingOption.rules options.now.first.now) (B.BalancingOption.rules options.now.second.now) self.now) self.now }
     {
         let Basis {
             usage,
             monthly_quantity,
         } = self.statement;
-        match self.election {
-            Election::First => first.split(usage, monthly_quantity, self.gas.statement),
-            Election::Second => second.split(usage, monthly_quantity, self.gas.statement),
-        }
+        options.split(
+            self.election,
+            &Statement {
+                usage,
+                monthly_quantity,
+                imbalance: self.gas.statement,
+            },
+        )
     }
 
     /// Whether a page that is not a core group's is to be cleared.
-    fn clears_noncore(&self, clear: u8) -> bool
-        ensures { result ≡ (clear == 1 && not (is_core self.now)) }
+    fn clears_noncore(&self, clear: bool) -> bool
+        ensures { result ≡ (clear && not (is_core self.now)) }
     {
-        clear == 1 && !self.is_core()
+        clear && !self.is_core()
     }
 
     /// Whether a carryover is to be cleared whose rest is too large for it.
-    fn clears_large(&self, clear: u8) -> bool
-        ensures { result ≡ (clear == 1 && nat_le large_carryover (unsigned_abs (rest_of_carryover self.now.gas))) }
+    fn clears_large(&self, clear: bool) -> bool
+        ensures { result ≡ (clear && nat_le large_carryover (unsigned_abs (rest_of_carryover self.now.gas))) }
     {
-        clear == 1 && self.gas.rest_of_carryover().unsigned_abs() >= 5_000
-    }
-
-    /// Moves the carryover and the kept part on, which keeps the limits, and empties the statement.
-    fn close_statement(&mut self, clear: bool, parts: &Parts)
-        requires left { past (left_over clear self.old.gas) ≡ false }
-        requires carried { past (carried_on clear self.old.gas parts.now) ≡ false }
-        ensures { self.new ≡ settled_page clear self.old parts.now }
-    {
-        self.settled = true;
-        self.gas = Gas {
-            running: self.gas.running,
-            statement: 0,
-            operating: 0,
-            carryover: self.gas.carryover_after(clear),
-            carried: self.gas.carried_after(clear, parts),
-        };
-        self.statement = Basis {
-            usage: 0,
-            monthly_quantity: 0,
-        };
+        clear && self.gas.left_over(false).unsigned_abs() >= 5_000
     }
 
     /// Carries the parts of the statement on and bills both tiers, within the limits and where the register has room.
@@ -185,51 +126,55 @@ impl Page {
         ensures page_after { self.new ≡ after (decided (carrying_refusals clear terms.now self.old account parts.now (length (free bills.old)))) (settled_page clear self.old parts.now) self.old }
         ensures bills_after { Wrote bills.old (after (decided (carrying_refusals clear terms.now self.old account parts.now (length (free bills.old)))) (tier_lines terms.now account parts.now) []) bills.new }
     {
-        if self.gas.left_over_passes(clear) {
-            return Err(refusal(Row::PastLimit, account));
-        }
-        if self.gas.carried_on_passes(clear, parts) {
-            return Err(refusal(Row::PastLimit, account));
-        }
+        let gas = self
+            .gas
+            .settled(clear, parts)
+            .ok_or(Fault::by_book(Row::PastLimit, Some(account)))?;
         bill_tiers(account, terms, parts, bills)?;
-        self.close_statement(clear, parts);
+        *self = Page {
+            settled: true,
+            gas,
+            statement: Basis::default(),
+            ..*self
+        };
         Ok(())
     }
 
+    // The flag is a number: one past 1 is refused under row 1, and a `bool` would ask more of callers.
     /// Settles the account with a card of the month before the running one.
     pub fn settle<A: BalancingOption, B: BalancingOption>(
         &mut self,
-        first: &A,
-        second: &B,
+        options: &Options<'_, A, B>,
         terms: &Terms,
         month: Month,
         account: u8,
         clear: u8,
         bills: &mut Register<'_, BillLine>,
     ) -> Result<(), Fault>
-        ensures answer { said result ≡ settling_answer (elected (A.BalancingOption.rules first.now) (B.BalancingOption.rules second.now) self.old) terms.now self.old month account clear (length (free bills.old)) }
-        ensures page_after { self.new ≡ page_settled (elected (A.BalancingOption.rules first.now) (B.BalancingOption.rules second.now) self.old) terms.now self.old month account clear (length (free bills.old)) }
-        ensures bills_after { Wrote bills.old (settling_lines (elected (A.BalancingOption.rules first.now) (B.BalancingOption.rules second.now) self.old) terms.now self.old month account clear (length (free bills.old))) bills.new }
+        ensures answer { said result ≡ settling_answer (elected (A.BalancingOption.rules options.now.first.now) (B.BalancingOption.rules options.now.second.now) self.old) terms.now self.old month account clear (length (free bills.old)) }
+        ensures page_after { self.new ≡ page_settled (elected (A.BalancingOption.rules options.now.first.now) (B.BalancingOption.rules options.now.second.now) self.old) terms.now self.old month account clear (length (free bills.old)) }
+        ensures bills_after { Wrote bills.old (settling_lines (elected (A.BalancingOption.rules options.now.first.now) (B.BalancingOption.rules options.now.second.now) self.old) terms.now self.old month account clear (length (free bills.old))) bills.new }
     {
         if clear > 1 {
-            return Err(refusal(Row::Field, NO_ACCOUNT));
+            return Err(Fault::by_book(Row::Field, None));
         }
+        let clear = clear == 1;
         if !self.is_open() {
-            return Err(refusal(Row::NotOpen, account));
+            return Err(Fault::by_book(Row::NotOpen, Some(account)));
         }
         if self.clears_noncore(clear) {
-            return Err(refusal(Row::WrongKind, account));
+            return Err(Fault::by_book(Row::WrongKind, Some(account)));
         }
-        if !follows(&terms.month, month) {
-            return Err(refusal(Row::OtherMonth, NO_ACCOUNT));
+        if !terms.month.is_followed_by(month) {
+            return Err(Fault::by_book(Row::OtherMonth, None));
         }
         if self.settled {
-            return Err(refusal(Row::WrongState, account));
+            return Err(Fault::by_book(Row::WrongState, Some(account)));
         }
         if self.clears_large(clear) {
-            return Err(refusal(Row::LargeCarryover, account));
+            return Err(Fault::by_book(Row::LargeCarryover, Some(account)));
         }
-        let parts = self.parts(first, second);
-        self.carry_on(account, clear == 1, terms, &parts, bills)
+        let parts = self.parts(options);
+        self.carry_on(account, clear, terms, &parts, bills)
     }
 }

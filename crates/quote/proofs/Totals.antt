@@ -2,7 +2,8 @@
 use Rattle.std.proofs.Common.{◌≡◌, ℕ, zero, suc, ◌+◌, ◌*◌, ℤ, pos, negsuc, ◌+ℤ◌, ◌*ℤ◌, subst, arith}
 use Rattle.std.proofs.lemmas.Int.{ints}
 use Rattle.tariff.specs.Bills.{amount_due}
-use Rattle.balancing.specs.Cashouts.{tier_line, tier_price, cents_of, cashout}
+use Rattle.balancing.specs.Cashouts.{tier_price, cents_of, cashout}
+use Rattle.tariff.specs.Bills.{tier_line}
 use Rattle.tariff.specs.Money.{Within}
 use Rattle.tariff.specs.declared.bill.BillKind.{BillKind}
 use Rattle.tariff.specs.declared.bill.BillKind.TheVariants.{TierOne, TierTwo, DailyExcess, AccumulatedExcess, Credit}

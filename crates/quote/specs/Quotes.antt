@@ -9,7 +9,7 @@ use Rattle.tariff.specs.declared.bill.Charge.{Charge}
 use Rattle.balancing.specs.declared.cashout.TierPrices.{TierPrices}
 use Rattle.balancing.specs.declared.option.Parts.{Parts}
 use Rattle.quote.specs.declared.Quote.{Quote}
-use Rattle.quote.specs.declared.Statement.{Statement}
+use Rattle.balancing.specs.declared.option.Statement.{Statement}
 
 -- the parts of a statement's imbalance under an option
 abbrev pub parts_of : Rules → Statement → Parts

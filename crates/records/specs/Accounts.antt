@@ -1,5 +1,5 @@
 -- The numbers of kinds and elections.
-use Rattle.std.specs.Prelude.{ℕ, cond, ◌==◌}
+use Rattle.std.specs.Prelude.{ℕ, cond, List, codes, ◌==◌}
 use Rattle.records.specs.declared.account.Kind.{Kind}
 use Rattle.records.specs.declared.account.Kind.TheVariants.{Noncore, Core}
 use Rattle.records.specs.declared.account.Election.{Election}
@@ -9,6 +9,11 @@ use Rattle.records.specs.declared.account.Election.TheVariants.{First, Second}
 abbrev pub kind_number : Kind → ℕ
 kind_number Noncore = 1
 kind_number Core = 2
+
+-- what a kind is called
+abbrev pub kind_text : Kind → List ℕ
+kind_text Noncore = codes "noncore"
+kind_text Core = codes "core group"
 
 abbrev pub kind_of : ℕ → Kind
 kind_of n = cond (n == 2) Core Noncore

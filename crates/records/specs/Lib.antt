@@ -1,3 +1,4 @@
 pub mod Accounts
 pub mod Components
+pub mod Numbered
 pub mod Refusals

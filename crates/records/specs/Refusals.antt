@@ -2,12 +2,7 @@
 use Rattle.std.specs.Prelude.{ℕ, Bool, cond, ◌||◌, List, [], ◌∷◌, None, Option, Result, nat_lt}
 use Rattle.tariff.specs.Faults.{Answer, done, refused, answer, layer_number, book_layer, no_account}
 use Rattle.tariff.specs.declared.fault.Fault.{Fault}
-use Rattle.tariff.specs.declared.fault.Row.{Row}
-use Rattle.tariff.specs.declared.fault.Layer.TheVariants.{Book, Register}
-
--- a refusal by the book
-abbrev pub by_book : Row → ℕ → Fault
-by_book r a = record { row = r; layer = Book; account = a }
+use Rattle.tariff.specs.declared.fault.Layer.TheVariants.{Register}
 
 -- a field lies outside its values
 abbrev pub outside : ℕ → ℕ → ℕ → Bool
@@ -16,7 +11,7 @@ outside least most n = nat_lt n least || nat_lt most n
 -- a line of a table: where the test holds, the book refuses with this row and this account;
 -- or a register does, which has fewer places than lines to write
 pub data Refusal : Type 0 where
-  when : Bool → ℕ → ℕ → Refusal
+  when : Bool → ℕ → Option ℕ → Refusal
   short : Bool → Refusal
 
 -- the first line whose test holds refuses; where none does, the call is performed and gives its value

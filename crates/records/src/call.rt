@@ -1,5 +1,9 @@
 // The ten calls.
 
+// A call's fields stand in it one by one, and the book's functions take them in the same order: a struct for each call would name them a second
+// time.
+// Numbers for kinds, elections, components and flags: one outside its values is refused under row 1, and an enum would ask more of
+// who hands it in.
 /// A call with its fields as they were handed in, whether or not they lie within their values.
 #[derive(Clone, Copy)]
 pub enum Call {

@@ -6,10 +6,11 @@ mod account;
 mod call;
 mod component;
 mod lines;
+mod numbered;
 mod refusals;
 
 pub use account::{Election, Kind, Status};
 pub use call::Call;
 pub use component::Component;
 pub use lines::{BillLine, Trade};
-pub use refusals::{outside, refusal};
+pub use refusals::outside;

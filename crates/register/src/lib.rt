@@ -5,13 +5,12 @@ ghost use Rattle.std.specs.Prelude.{◌≡◌, ◌<◌, [], ◌∷◌, length, d
 ghost use Rattle.std.specs.List.{slice_get};
 ghost use Rattle.register.specs.Registers.{Wrote, free, records};
 
-mod cuts;
 mod full;
 
-use cuts::{at, front, put, rest};
 pub use full::Full;
 
 /// Lent places and a count: so many places hold records, from the first on, and the others are free.
+// No `Vec`: the memory is the caller's, so that no call fails for want of it.
 #[derive(Drop)]
 pub struct Register<'a, R> {
     places: &'a mut [R],
@@ -39,7 +38,7 @@ impl<'a, R: Copy> Register<'a, R> {
     pub fn room(&self) -> usize
         ensures { result ≡ length (free self.now) }
     {
-        rest(self.places, self.len()).len()
+        self.places.len().saturating_sub(self.len())
     }
 
     /// Whether that many lines can be written: refuses where fewer places are free.
@@ -53,13 +52,13 @@ impl<'a, R: Copy> Register<'a, R> {
     }
 
     /// Adds a record after the others; a full register refuses, and nothing changes.
-    pub fn write(&mut self, record: R) -> Result<(), Full>
-        ensures fits { 0 < length (free self.old) → (result ≡ Ok tt) × Wrote self.old («record» ∷ []) self.new }
+    pub fn write(&mut self, entry: R) -> Result<(), Full>
+        ensures fits { 0 < length (free self.old) → (result ≡ Ok tt) × Wrote self.old (entry ∷ []) self.new }
         ensures full { length (free self.old) ≡ 0 → (result ≡ Err (record {})) × (self.new ≡ self.old) }
     {
         self.room_for(1)?;
         let Register { places, count } = self;
-        put(places, *count, record);
+        places[*count] = entry;
         *count += 1;
         Ok(())
     }
@@ -68,20 +67,20 @@ impl<'a, R: Copy> Register<'a, R> {
     pub fn read(&self, place: usize) -> Option<R>
         ensures { result ≡ slice_get (records self.now) place }
     {
-        at(self.written(), place)
+        self.written().get(place).copied()
     }
 
     /// The records from a place on; none at or past the count.
     pub fn since(&self, place: usize) -> &[R]
         ensures { result.now ≡ drop place (records self.now) }
     {
-        rest(self.written(), place)
+        self.written().get(place..).unwrap_or(&[])
     }
 
     /// All records.
     fn written(&self) -> &[R]
         ensures { result.now ≡ records self.now }
     {
-        front(self.places, self.len())
+        &self.places[..self.len().min(self.places.len())]
     }
 }

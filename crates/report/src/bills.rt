@@ -2,46 +2,50 @@
 use crate::dollars::Dollars;
 use records::BillLine;
 use register::Register;
+use std::alloc::{AllocError, Global};
+use std::collections::BTreeMap;
 use std::io;
-use tariff::{BillKind, Cents};
+use std::iter::Sum;
+use tariff::Cents;
 
-fn kind_name(kind: BillKind) -> &'static str {
-    match kind {
-        BillKind::TierOne => "Tier I",
-        BillKind::TierTwo => "Tier II",
-        BillKind::DailyExcess => "daily excess",
-        BillKind::AccumulatedExcess => "accumulated excess",
-        BillKind::Credit => "credit",
-    }
+/// What bill lines come to, in cents, and how many they are.
+#[derive(Clone, Copy, Default)]
+pub(crate) struct Total {
+    pub(crate) cents: i128,
+    pub(crate) lines: u64,
 }
 
-/// What the lines of an account come to, and how many they are.
-fn total_of(lines: &[BillLine], account: u8) -> (Cents, usize) {
-    let mut sum: i128 = 0;
-    let mut count: usize = 0;
-    for line in lines {
-        if line.account == account {
-            sum = sum.saturating_add(line.charge.cents.count);
-            count = count.saturating_add(1);
+impl Total {
+    /// The total with one more line.
+    fn with(self, line: &BillLine) -> Total {
+        Total {
+            cents: self.cents.saturating_add(line.charge.cents.count),
+            lines: self.lines.saturating_add(1),
         }
     }
-    (Cents { count: sum }, count)
 }
 
-/// What all lines come to.
-pub(crate) fn total(lines: &[BillLine]) -> Cents {
-    let mut sum: i128 = 0;
-    for line in lines {
-        sum = sum.saturating_add(line.charge.cents.count);
+impl<'a> Sum<&'a BillLine> for Total {
+    fn sum<I: Iterator<Item = &'a BillLine>>(lines: I) -> Total {
+        lines.fold(Total::default(), Total::with)
     }
-    Cents { count: sum }
+}
+
+/// The total of each account that has a line.
+fn totals(alloc: Global, lines: &[BillLine]) -> Result<BTreeMap<u8, Total>, AllocError> {
+    let mut totals = BTreeMap::new(alloc);
+    for line in lines {
+        let total: &mut Total = totals.entry(line.account)?.or_insert(Total::default());
+        *total = total.with(line);
+    }
+    Ok(totals)
 }
 
 fn print_line(rt: &HostRuntime, line: &BillLine) -> io::Result<()> {
     let account = line.account;
     let month = line.month;
     let number = line.charge.kind.number();
-    let name = kind_name(line.charge.kind);
+    let name = line.charge.kind;
     let quantity = line.charge.quantity;
     let price = format!(in rt.alloc(); "{}", Dollars::OnCard(line.charge.price))?;
     let dollars = format!(in rt.alloc(); "{}", line.charge.cents)?;
@@ -50,20 +54,10 @@ fn print_line(rt: &HostRuntime, line: &BillLine) -> io::Result<()> {
     )
 }
 
-fn print_total(rt: &HostRuntime, whose: &str, total: Cents, count: usize) -> io::Result<()> {
-    let dollars = format!(in rt.alloc(); "{total}")?;
-    println!(rt; "  {whose:<40} {count:>5} lines {dollars:>33}")
-}
-
-fn print_agents(rt: &HostRuntime, lines: &[BillLine]) -> io::Result<()> {
-    for account in 0..64u8 {
-        let (total, count) = total_of(lines, account);
-        if count > 0 {
-            let whose = format!(in rt.alloc(); "account {account}")?;
-            print_total(rt, whose.as_str(), total, count)?;
-        }
-    }
-    Ok(())
+fn print_total(rt: &HostRuntime, whose: &str, total: Total) -> io::Result<()> {
+    let lines = total.lines;
+    let dollars = format!(in rt.alloc(); "{}", Cents { count: total.cents })?;
+    println!(rt; "  {whose:<40} {lines:>5} lines {dollars:>33}")
 }
 
 /// A table of all bill lines in the order in which they were written, then the totals.
@@ -75,6 +69,9 @@ pub fn print_bills(rt: &HostRuntime, bills: &Register<'_, BillLine>) -> io::Resu
     for line in lines {
         print_line(rt, line)?;
     }
-    print_agents(rt, lines)?;
-    print_total(rt, "in all", total(lines), lines.len())
+    for (account, total) in &totals(rt.alloc(), lines)? {
+        let whose = format!(in rt.alloc(); "account {account}")?;
+        print_total(rt, whose.as_str(), *total)?;
+    }
+    print_total(rt, "in all", lines.iter().sum::<Total>())
 }

@@ -2,6 +2,8 @@
 use records::{BillLine, Component, Trade};
 use tariff::{BillKind, Charge, Month};
 
+// Two functions, and no `Default`, which only `records` could write, and which would have no month.
+
 /// A bill line of nothing.
 pub fn blank_line(month: Month) -> BillLine {
     BillLine {

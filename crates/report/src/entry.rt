@@ -11,8 +11,7 @@ pub fn print_entry(rt: &HostRuntime, entry: &Entry) -> io::Result<()> {
         result: entry.answer,
     };
     println!(rt; "  {words} -> {answer}")?;
-    match entry.counted {
-        Ok(()) => Ok(()),
-        Err(why) => println!(rt; "  NOT COUNTED: {why}"),
-    }
+    entry
+        .counted
+        .or_else(|why| println!(rt; "  NOT COUNTED: {why}"))
 }

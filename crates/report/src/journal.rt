@@ -2,7 +2,7 @@
 use crate::sums::Sums;
 use balancing::BalancingOption;
 use book::Book;
-use cards::Card;
+use cards::{AtHand, Card};
 use records::{BillLine, Call, Trade};
 use register::Register;
 use tally::{Tally, Uncounted};
@@ -49,14 +49,14 @@ impl Journal {
         &mut self,
         book: &mut Book<A, B>,
         call: &Call,
-        settling: &C,
-        closing: &D,
+        cards: &AtHand<C, D>,
         bills: &mut Register<'_, BillLine>,
         trades: &mut Register<'_, Trade>,
     ) -> Entry {
         let before = bills.len();
-        let due = book.due_by(call, settling, closing);
-        let answer = book.perform(call, settling, closing, bills, trades);
+        let due = book.due_by(call, cards);
+        let answer = book.perform(call, cards, bills, trades);
+        // A match, and no `?`: a refused call stands in the entry as it is, and the tally has nothing to count.
         let counted = match answer {
             Ok(_) => self.count(call, bills.since(before), due),
             Err(_) => Ok(()),

@@ -1,20 +1,34 @@
 // Prints the pages of the open accounts, each beside the tally's number.
 use crate::journal::Journal;
-use crate::names::kind_name;
 use balancing::BalancingOption;
 use book::Book;
 use page::Page;
 use records::Election;
+use std::alloc::{AllocError, Global};
 use std::io;
+
+/// The open accounts with their pages.
+fn open_pages<A: BalancingOption, B: BalancingOption>(
+    alloc: Global,
+    book: &Book<A, B>,
+) -> Result<Vec<(u8, Page)>, AllocError> {
+    // Over the numbers of accounts, and no list: the book gives a page by its account.
+    (0..64u8)
+        .filter_map(|account| book.page(account).ok().map(|page| (account, page)))
+        .collect(alloc)
+}
 
 /// The mark of the option that a page elected.
 fn mark<A: BalancingOption, B: BalancingOption>(page: &Page) -> char {
+    // A match, since the two options are types, and a mark belongs to its type.
     match page.election {
         Election::First => A::MARK,
         Election::Second => B::MARK,
     }
 }
 
+/// Whether a page's statement is settled.
+// A word, and no enum with a `Display`: only the table of pages has it.
 fn settled(page: &Page) -> &'static str {
     if page.settled { "yes" } else { "no" }
 }
@@ -27,7 +41,7 @@ fn print_gas_held(rt: &HostRuntime, account: u8, page: &Page, number: i64) -> io
     let carryover = page.gas.carryover;
     let carried = page.gas.carried;
     let gas = page.gas_held();
-    let difference = gas as i128 - number as i128;
+    let difference = i128::from(gas) - i128::from(number);
     println!(rt;
         "  {account:>7} {running:>11} {statement:>11} {operating:>11} {carryover:>11} {carried:>11} {gas:>12} {number:>12} {difference:>11}"
     )
@@ -35,7 +49,7 @@ fn print_gas_held(rt: &HostRuntime, account: u8, page: &Page, number: i64) -> io
 
 /// What an account is, with its running month and its statement.
 fn print_months(rt: &HostRuntime, account: u8, mark: char, page: &Page) -> io::Result<()> {
-    let kind = kind_name(page.kind.number());
+    let kind = page.kind;
     let day = page.posted.day;
     let usage = page.month.usage;
     let quantity = page.month.monthly_quantity;
@@ -47,31 +61,6 @@ fn print_months(rt: &HostRuntime, account: u8, mark: char, page: &Page) -> io::R
     println!(rt;
         "  {account:>7}  {kind:<10}  {mark} {day:>4} {usage:>10} {quantity:>10} {daily:>11} {accumulated:>11} {stated_usage:>10} {stated_quantity:>10}  {settled}"
     )
-}
-
-fn print_all_gas<A: BalancingOption, B: BalancingOption>(
-    rt: &HostRuntime,
-    book: &Book<A, B>,
-    journal: &Journal,
-) -> io::Result<()> {
-    for account in 0..64u8 {
-        if let Ok(page) = book.page(account) {
-            print_gas_held(rt, account, &page, journal.tally.number(account))?;
-        }
-    }
-    Ok(())
-}
-
-fn print_all_months<A: BalancingOption, B: BalancingOption>(
-    rt: &HostRuntime,
-    book: &Book<A, B>,
-) -> io::Result<()> {
-    for account in 0..64u8 {
-        if let Ok(page) = book.page(account) {
-            print_months(rt, account, mark::<A, B>(&page), &page)?;
-        }
-    }
-    Ok(())
 }
 
 /// Says so where the tally lacks calls, since its numbers then mean nothing.
@@ -88,13 +77,18 @@ pub fn print_pages<A: BalancingOption, B: BalancingOption>(
     book: &Book<A, B>,
     journal: &Journal,
 ) -> io::Result<()> {
+    let pages = open_pages(rt.alloc(), book)?;
     rt.println(
         "                              running month                                   statement\n  account  kind        O  day      usage   quantity  daily exc.  accum. exc.     usage   quantity  settled",
     )?;
-    print_all_months(rt, book)?;
+    for (account, page) in &pages {
+        print_months(rt, *account, mark::<A, B>(page), page)?;
+    }
     rt.println(
         "  account   running R statement S operating P carryover C   carried K  gas on page    the tally  difference",
     )?;
-    print_all_gas(rt, book, journal)?;
+    for (account, page) in &pages {
+        print_gas_held(rt, *account, page, journal.tally.number(*account))?;
+    }
     print_uncounted(rt, journal.uncounted)
 }

@@ -1,8 +1,9 @@
 // The gas that performed calls moved into the book and out of it, and what they made due.
 use records::{BillLine, Call};
+use tally::cashed_out;
 
 /// Sums over performed calls: gas in Dth, and the amounts due in ten-thousandths of a cent.
-#[derive(Clone, Copy)]
+#[derive(Clone, Copy, Default)]
 pub struct Sums {
     pub receipts: i128,
     pub usage: i128,
@@ -12,60 +13,40 @@ pub struct Sums {
     pub due: i128,
 }
 
-/// The gas that lines cash out: the quantities of both tiers.
-fn cashed_out(lines: &[BillLine]) -> i128 {
-    let mut sum: i128 = 0;
-    for line in lines {
-        if line.charge.kind.number() <= 2 {
-            sum = sum.saturating_add(line.charge.quantity as i128);
-        }
-    }
-    sum
+fn add<N: Into<i128>>(sum: &mut i128, number: N) {
+    *sum = sum.saturating_add(number.into());
 }
 
 impl Sums {
     /// Nothing was performed.
     pub fn new() -> Sums {
-        Sums {
-            receipts: 0,
-            usage: 0,
-            adjusted: 0,
-            stated: 0,
-            cashed_out: 0,
-            due: 0,
-        }
+        Sums::default()
     }
 
     /// Receipts less usage, with adjustments and operating quantities, less the gas cashed out.
     pub fn gas(&self) -> i128 {
-        let delivered = self.receipts.saturating_sub(self.usage);
-        let entered = delivered
+        self.receipts
+            .saturating_sub(self.usage)
             .saturating_add(self.adjusted)
-            .saturating_add(self.stated);
-        entered.saturating_sub(self.cashed_out)
+            .saturating_add(self.stated)
+            .saturating_sub(self.cashed_out)
     }
 
     /// Counts a performed call, the lines that it wrote and what it made due.
     pub fn count(&mut self, call: &Call, lines: &[BillLine], due: i128) {
-        self.due = self.due.saturating_add(due);
-        match call {
+        add(&mut self.due, due);
+        match *call {
             Call::Post {
                 receipts,
                 usage,
                 ..
             } => {
-                self.receipts = self.receipts.saturating_add(*receipts as i128);
-                self.usage = self.usage.saturating_add(*usage as i128);
+                add(&mut self.receipts, receipts);
+                add(&mut self.usage, usage);
             }
-            Call::Adjust { quantity, .. } => {
-                self.adjusted = self.adjusted.saturating_add(*quantity as i128);
-            }
-            Call::State { quantity, .. } => {
-                self.stated = self.stated.saturating_add(*quantity as i128);
-            }
-            Call::Settle { .. } => {
-                self.cashed_out = self.cashed_out.saturating_add(cashed_out(lines));
-            }
+            Call::Adjust { quantity, .. } => add(&mut self.adjusted, quantity),
+            Call::State { quantity, .. } => add(&mut self.stated, quantity),
+            Call::Settle { .. } => add(&mut self.cashed_out, cashed_out(lines)),
             _ => {}
         }
     }

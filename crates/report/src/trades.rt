@@ -1,5 +1,4 @@
 // Prints trade confirmations.
-use crate::names::component_name;
 use records::Trade;
 use register::Register;
 use std::io;
@@ -7,9 +6,9 @@ use std::io;
 fn print_trade(rt: &HostRuntime, trade: &Trade) -> io::Result<()> {
     let month = trade.month;
     let giver = trade.giver;
-    let gives = component_name(trade.gives.number());
+    let gives = trade.gives;
     let taker = trade.taker;
-    let takes = component_name(trade.takes.number());
+    let takes = trade.takes;
     let quantity = trade.quantity;
     println!(rt;
         "  {month}  account {giver:>2} ({gives}) to account {taker:>2} ({takes}) {quantity:>10} Dth"

@@ -1,7 +1,21 @@
 // A call in words, with all its fields as they were handed in.
-use crate::names::{clear_name, component_name, kind_name, order_name};
+use crate::names::{ComponentNumber, KindNumber, clear_name};
 use records::Call;
 use std::fmt;
+
+/// What a day's flag adds to the words: nothing where it is 0.
+#[derive(Drop)]
+struct DayFlag(u8);
+
+impl fmt::Display for DayFlag {
+    fn fmt<W: fmt::Write>(&self, f: &mut fmt::Formatter<W>) -> fmt::Result {
+        match self.0 {
+            0 => Ok(()),
+            1 => write!(f, ", flow order"),
+            flag => write!(f, ", flag {flag} (no such flag)"),
+        }
+    }
+}
 
 /// A call, printed in words.
 #[derive(Clone, Copy)]
@@ -18,7 +32,7 @@ impl fmt::Display for InWords {
                 election,
                 monthly_quantity,
             } => {
-                let name = kind_name(kind);
+                let name = KindNumber(kind);
                 write!(
                     f,
                     "open account {account}: kind {kind} ({name}), option {election}, monthly quantity {monthly_quantity}"
@@ -38,16 +52,10 @@ impl fmt::Display for InWords {
                 receipts,
                 usage,
             } => {
-                if order > 1 {
-                    return write!(
-                        f,
-                        "post account {account}, day {day}, flag {order} (no such flag): receipts {receipts}, usage {usage}"
-                    );
-                }
-                let name = order_name(order);
+                let flag = DayFlag(order);
                 write!(
                     f,
-                    "post account {account}, day {day}{name}: receipts {receipts}, usage {usage}"
+                    "post account {account}, day {day}{flag}: receipts {receipts}, usage {usage}"
                 )
             }
             Call::Adjust { account, quantity } => write!(
@@ -65,8 +73,8 @@ impl fmt::Display for InWords {
                 takes,
                 quantity,
             } => {
-                let from = component_name(gives);
-                let to = component_name(takes);
+                let from = ComponentNumber(gives);
+                let to = ComponentNumber(takes);
                 write!(
                     f,
                     "offer {quantity} from account {giver}, component {gives} ({from}), to account {taker}, component {takes} ({to})"

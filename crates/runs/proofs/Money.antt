@@ -9,7 +9,7 @@ use Rattle.tariff.specs.declared.bill.BillKind.{BillKind}
 use Rattle.tariff.specs.declared.bill.BillKind.TheVariants.{TierOne, TierTwo, DailyExcess, AccumulatedExcess, Credit}
 use Rattle.tariff.specs.declared.month.Month.{Month}
 use Rattle.tariff.proofs.Rounding.{nearest_within, sum_within}
-use Rattle.balancing.specs.Cashouts.{tier_line}
+use Rattle.tariff.specs.Bills.{tier_line}
 use Rattle.quote.specs.Quotes.{due}
 use Rattle.balancing.specs.Rules.{Rules}
 use Rattle.balancing.specs.declared.option.Parts.{Parts}

@@ -4,7 +4,8 @@ use Rattle.std.proofs.lemmas.Int.{ints}
 use Rattle.std.proofs.lemmas.Bool.{leb-false, not-false}
 use Rattle.tariff.specs.declared.bill.BillKind.TheVariants.{TierOne, TierTwo}
 use Rattle.tariff.specs.declared.month.Month.{Month}
-use Rattle.balancing.specs.Cashouts.{tier_line, tier_one_line, tier_two_line}
+use Rattle.balancing.specs.Cashouts.{tier_one_line, tier_two_line}
+use Rattle.tariff.specs.Bills.{tier_line}
 use Rattle.balancing.specs.Rules.{Rules, Laws}
 use Rattle.balancing.specs.declared.option.Parts.{Parts}
 use Rattle.cards.specs.declared.terms.Terms.{Terms}

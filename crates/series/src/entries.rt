@@ -7,35 +7,23 @@ ghost use Rattle.series.specs.Refusals.{opening, entering, pricing};
 
 use crate::bits::{count, days_upto, with_day};
 use crate::{MOST_PRICE, PriceSeries};
-use tariff::{Fault, Layer, Month, NO_ACCOUNT, Row};
-
-/// A refusal of this layer. It concerns no account.
-fn refusal(row: Row) -> Fault
-    ensures { result ≡ record { row = row; layer = Layer.Card; account = 255 } }
-{
-    Fault {
-        row,
-        layer: Layer::Card,
-        account: NO_ACCOUNT,
-    }
-}
+use tariff::{Fault, Month, Row};
 
 impl PriceSeries {
     /// A series without entries, for the month `month` (1 to 12) of `year`, with the price that holds until the first entry.
+    // Year and number apart: what names no month is refused here, as row 1 of the card.
     pub fn new(year: u16, month: u8, before: u32) -> Result<PriceSeries, Fault>
         ensures outcome { answer (λ s. month_of s) result ≡ opening year month before }
         ensures before { IfOk result (λ s. s.before ≡ before) }
         ensures none { IfOk result (λ s. (d : ℕ) → entered s d ≡ None) }
     {
-        let Some(named) = Month::new(year, month) else {
-            return Err(refusal(Row::Field));
-        };
+        let month = Month::new(year, month).ok_or(Fault::by_card(Row::Field))?;
         if before > MOST_PRICE {
-            return Err(refusal(Row::PastLimit));
+            return Err(Fault::by_card(Row::PastLimit));
         }
         Ok(PriceSeries {
-            month: named,
-            days: named.days(),
+            month,
+            days: month.days(),
             before,
             published: 0,
             prices: [0; 31],
@@ -51,10 +39,10 @@ impl PriceSeries {
         ensures unchanged { is_ok result ≡ false → self.new ≡ self.old }
     {
         if !self.has_day(day) {
-            return Err(refusal(Row::Field));
+            return Err(Fault::by_card(Row::Field));
         }
         if price > MOST_PRICE {
-            return Err(refusal(Row::PastLimit));
+            return Err(Fault::by_card(Row::PastLimit));
         }
         self.put(day, price);
         Ok(())
@@ -68,6 +56,7 @@ impl PriceSeries {
         ensures entries { (d : ℕ) → entered self.new d ≡ (if nat_eq d day then Some price else entered self.old d) }
     {
         self.published = with_day(self.published, day);
+        // Casts of a day here and below: with `usize::from` the bounds stayed open.
         self.prices[day as usize - 1] = price;
     }
 
@@ -82,7 +71,7 @@ impl PriceSeries {
     fn has_day(&self, day: u8) -> bool
         ensures { result ≡ from_to 1 (days_of self.now) day }
     {
-        day >= 1 && day <= self.days
+        (1..=self.days).contains(&day)
     }
 
     /// How many days the month has.
@@ -114,16 +103,16 @@ impl PriceSeries {
         Some(32 - upto.leading_zeros())
     }
 
+    // The limit of a price stands in the clauses of both: a price is a plain number to whoever asks for it.
+
     /// The price of the last published day up to `day`, or else the price before the month.
     pub fn latest_price(&self, day: u8) -> u32
         ensures value { result ≡ daily self.now day }
         ensures rule { Rule self.now day result }
         ensures limit { result ≤ 10000000 }
     {
-        match self.latest_day(day) {
-            Some(latest) => self.prices[latest as usize - 1],
-            None => self.before,
-        }
+        self.latest_day(day)
+            .map_or(self.before, |latest| self.prices[latest as usize - 1])
     }
 
     /// The price of one of the month's days.
@@ -134,7 +123,7 @@ impl PriceSeries {
         if self.has_day(day) {
             Ok(self.latest_price(day))
         } else {
-            Err(refusal(Row::Field))
+            Err(Fault::by_card(Row::Field))
         }
     }
 }

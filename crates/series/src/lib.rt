@@ -19,6 +19,7 @@ pub struct PriceSeries {
     month: Month,
     days: u8,
     before: u32,
+    // The project's rule: published days are the bits of one 32-bit number, counted and searched as such, beside their prices.
     published: u32,
     prices: [u32; 31],
     ghost dayed: { (days ≡ days_in month) × (28 ≤ days) × (days ≤ 31) × (published < 2 ^ days) },

@@ -1,9 +1,9 @@
 // Reads the command line.
+// Not by the kit's `clap`, which words its complaints itself: each one here is a line of this program's own words.
 use crate::request::{Choice, Layout, Request, sample};
-use balancing::{Monthly, TierPrices};
+use balancing::{Monthly, Statement, TierPrices};
 use decimal::{Decimals, read_amount};
-use quote::Statement;
-use std::fmt;
+use thiserror::Error;
 
 const OPTION: &str = "--option";
 
@@ -29,26 +29,26 @@ const PRICES: &str = "--prices";
 
 /// The arguments of the task `quote`.
 const QUOTE_FLAGS: [&str; 10] = [
-    "--option",
-    "--tolerance",
-    "--usage",
-    "--monthly-quantity",
-    "--imbalance",
-    "--tier-one-over",
-    "--tier-one-under",
-    "--tier-two-over",
-    "--tier-two-under",
-    "--format",
+    OPTION,
+    TOLERANCE,
+    USAGE,
+    MONTHLY_QUANTITY,
+    IMBALANCE,
+    TIER_ONE_OVER,
+    TIER_ONE_UNDER,
+    TIER_TWO_OVER,
+    TIER_TWO_UNDER,
+    FORMAT,
 ];
 
 /// The arguments of the task `prices`.
-const PRICES_FLAGS: [&str; 2] = ["--prices", "--format"];
+const PRICES_FLAGS: [&str; 2] = [PRICES, FORMAT];
 
 /// The largest quantity that the book takes, in Dth.
 const MOST: u32 = 100_000_000;
 
 /// The largest card price, in millionths of a dollar.
-const MOST_PRICE: u64 = 1_500_000_000;
+const MOST_PRICE: u32 = 1_500_000_000;
 
 /// What the program is asked to do.
 #[derive(Clone, Copy)]
@@ -60,219 +60,174 @@ pub(crate) enum Command<'a> {
 }
 
 /// Why the command line is not understood.
-#[derive(Clone, Copy)]
+#[derive(Clone, Copy, Debug, Error)]
 pub(crate) enum Complaint<'a> {
+    #[error("'{0}' is no task of this program; 'settle --help' lists them")]
     UnknownCommand(&'a str),
+    #[error("{0}: there is no such argument; 'settle --help' lists them")]
     UnknownArgument(&'a str),
+    #[error("{0}: a value is missing after it")]
     NoValue(&'a str),
+    #[error("{0}: given twice")]
     GivenTwice(&'a str),
+    #[error("{0}: missing; 'settle --help' has an example")]
     Absent(&'static str),
+    #[error("{0}: '{1}' is not {2}")]
     Unfit(&'static str, &'a str, &'static str),
+    #[error("--tolerance: only the monthly option has one")]
     NoTolerance,
 }
 
-impl fmt::Display for Complaint<'_> {
-    fn fmt<W: fmt::Write>(&self, f: &mut fmt::Formatter<W>) -> fmt::Result {
-        match self {
-            Complaint::UnknownCommand(word) => write!(
-                f,
-                "'{word}' is no task of this program; 'settle --help' lists them"
-            ),
-            Complaint::UnknownArgument(word) => write!(
-                f,
-                "{word}: there is no such argument; 'settle --help' lists them"
-            ),
-            Complaint::NoValue(flag) => write!(f, "{flag}: a value is missing after it"),
-            Complaint::GivenTwice(flag) => write!(f, "{flag}: given twice"),
-            Complaint::Absent(flag) => write!(f, "{flag}: missing; 'settle --help' has an example"),
-            Complaint::Unfit(flag, value, wanted) => write!(f, "{flag}: '{value}' is not {wanted}"),
-            Complaint::NoTolerance => write!(f, "--tolerance: only the monthly option has one"),
-        }
-    }
+/// Flags, each with the word after it as its value.
+#[derive(Clone, Copy)]
+struct Pairs<'a> {
+    words: &'a [String],
 }
 
-fn is_flag(flags: &[&str], word: &str) -> bool {
-    for flag in flags {
-        if *flag == word {
-            return true;
+impl<'a> Pairs<'a> {
+    /// Takes the words in pairs. Each flag is one of `flags` and given once, with a value after it; else the first fault from the left is told.
+    fn new(words: &'a [String], flags: &[&'a str]) -> Result<Pairs<'a>, Complaint<'a>> {
+        // By place, to look back over the flags before: a set of those would want memory, for ten flags at most.
+        for (i, pair) in words.chunks(2).enumerate() {
+            let mut earlier = words.chunks(2).take(i);
+            match pair {
+                [flag, ..] if !flags.contains(&flag.as_str()) => {
+                    return Err(Complaint::UnknownArgument(flag.as_str()));
+                }
+                [flag, ..] if earlier.any(|pair| pair.first() == Some(flag)) => {
+                    return Err(Complaint::GivenTwice(flag.as_str()));
+                }
+                [flag] => return Err(Complaint::NoValue(flag.as_str())),
+                _ => {}
+            }
         }
+        Ok(Pairs { words })
     }
-    false
-}
 
-/// Whether a word stands among the flags before the pair `i`.
-fn stands_before(words: &[String], i: usize, word: &str) -> bool {
-    for (k, earlier) in words.iter().enumerate() {
-        if k / 2 < i && k % 2 == 0 && earlier.as_str() == word {
-            return true;
-        }
+    /// The value of a flag, if it is given.
+    fn given(&self, flag: &str) -> Option<&'a str> {
+        self.words.chunks(2).find_map(|pair| match pair {
+            [word, value] if word.as_str() == flag => Some(value.as_str()),
+            _ => None,
+        })
     }
-    false
-}
 
-/// The words are flags, each known and given once, with a value after it.
-fn check_flags<'a>(words: &'a [String], flags: &[&str]) -> Result<(), Complaint<'a>> {
-    for (i, word) in words.iter().enumerate() {
-        let flag = word.as_str();
-        if i % 2 == 0 && !is_flag(flags, flag) {
-            return Err(Complaint::UnknownArgument(flag));
-        }
-        if i % 2 == 0 && stands_before(words, i / 2, flag) {
-            return Err(Complaint::GivenTwice(flag));
-        }
-        if i % 2 == 0 && i + 1 == words.len() {
-            return Err(Complaint::NoValue(flag));
-        }
+    fn required(&self, flag: &'static str) -> Result<&'a str, Complaint<'a>> {
+        self.given(flag).ok_or(Complaint::Absent(flag))
     }
-    Ok(())
-}
 
-/// The word after a flag.
-fn value_of<'a>(words: &'a [String], flag: &str) -> Option<&'a str> {
-    for i in 0..words.len() / 2 {
-        if words[2 * i].as_str() == flag {
-            return Some(words[2 * i + 1].as_str());
-        }
+    /// The value of a flag as `read` reads it.
+    fn read<T, F: FnOnce(&str) -> Option<T>>(
+        &self,
+        flag: &'static str,
+        wanted: &'static str,
+        read: F,
+    ) -> Result<T, Complaint<'a>>
+        requires { F.IsAlwaysCallable read }
+    {
+        let text = self.required(flag)?;
+        read(text).ok_or(Complaint::Unfit(flag, text, wanted))
     }
-    None
-}
 
-fn required<'a>(words: &'a [String], flag: &'static str) -> Result<&'a str, Complaint<'a>> {
-    match value_of(words, flag) {
-        Some(value) => Ok(value),
-        None => Err(Complaint::Absent(flag)),
+    fn quantity(&self, flag: &'static str) -> Result<u32, Complaint<'a>> {
+        self.read(flag, "a whole number of Dth from 0 to 100000000", |text| {
+            text.parse::<u32>().ok().filter(|n| *n <= MOST)
+        })
     }
-}
 
-fn read_quantity<'a>(words: &'a [String], flag: &'static str) -> Result<u32, Complaint<'a>> {
-    let text = required(words, flag)?;
-    match text.parse::<u32>() {
-        Ok(n) if n <= MOST => Ok(n),
-        _ => Err(Complaint::Unfit(flag, text, "a whole number of Dth from 0 to 100000000")),
-    }
-}
-
-fn read_imbalance(words: &[String]) -> Result<i32, Complaint<'_>> {
-    let text = required(words, IMBALANCE)?;
-    match text.parse::<i32>() {
-        Ok(n) if n.unsigned_abs() <= MOST => Ok(n),
-        _ => Err(Complaint::Unfit(
+    fn imbalance(&self) -> Result<i32, Complaint<'a>> {
+        self.read(
             IMBALANCE,
-            text,
             "a whole number of Dth from -100000000 to 100000000",
-        )),
+            |text| {
+                text.parse::<i32>()
+                    .ok()
+                    .filter(|n| n.unsigned_abs() <= MOST)
+            },
+        )
     }
-}
 
-fn read_price<'a>(words: &'a [String], flag: &'static str) -> Result<u32, Complaint<'a>> {
-    let text = required(words, flag)?;
-    match read_amount(text.as_bytes(), Decimals::Six) {
-        Some(n) if n <= MOST_PRICE => Ok(n as u32),
-        _ => Err(Complaint::Unfit(
+    fn price(&self, flag: &'static str) -> Result<u32, Complaint<'a>> {
+        self.read(
             flag,
-            text,
             "an amount in dollars from 0 to 1500 with at most six decimals",
-        )),
+            |text| {
+                read_amount(text.as_bytes(), Decimals::Six)
+                    .and_then(|n| u32::try_from(n).ok())
+                    .filter(|n| *n <= MOST_PRICE)
+            },
+        )
+    }
+
+    /// Five percent if no tolerance is given.
+    fn tolerance(&self) -> Result<Monthly, Complaint<'a>> {
+        let text = self.given(TOLERANCE).unwrap_or("5");
+        text.parse::<u8>()
+            .ok()
+            .and_then(|percent| Monthly::new(percent).ok())
+            .ok_or(Complaint::Unfit(TOLERANCE, text, "3, 4 or 5 percent"))
+    }
+
+    fn choice(&self) -> Result<Choice, Complaint<'a>> {
+        match self.required(OPTION)? {
+            "monthly" => self.tolerance().map(Choice::Monthly),
+            "self-balancing" if self.given(TOLERANCE).is_some() => Err(Complaint::NoTolerance),
+            "self-balancing" => Ok(Choice::SelfBalancing),
+            text => Err(Complaint::Unfit(OPTION, text, "'monthly' or 'self-balancing'")),
+        }
+    }
+
+    /// A table if no format is given.
+    fn layout(&self) -> Result<Layout, Complaint<'a>> {
+        match self.given(FORMAT).unwrap_or("table") {
+            "table" => Ok(Layout::Table),
+            "csv" => Ok(Layout::Csv),
+            text => Err(Complaint::Unfit(FORMAT, text, "'table' or 'csv'")),
+        }
+    }
+
+    fn statement(&self) -> Result<Statement, Complaint<'a>> {
+        Ok(Statement {
+            usage: self.quantity(USAGE)?,
+            monthly_quantity: self.quantity(MONTHLY_QUANTITY)?,
+            imbalance: self.imbalance()?,
+        })
+    }
+
+    fn prices(&self) -> Result<TierPrices, Complaint<'a>> {
+        Ok(TierPrices {
+            one_over: self.price(TIER_ONE_OVER)?,
+            one_under: self.price(TIER_ONE_UNDER)?,
+            two_over: self.price(TIER_TWO_OVER)?,
+            two_under: self.price(TIER_TWO_UNDER)?,
+        })
+    }
+
+    fn request(&self) -> Result<Request, Complaint<'a>> {
+        Ok(Request {
+            choice: self.choice()?,
+            statement: self.statement()?,
+            prices: self.prices()?,
+            layout: self.layout()?,
+        })
     }
 }
 
-fn read_tolerance(words: &[String]) -> Result<Monthly, Complaint<'_>> {
-    let Some(text) = value_of(words, TOLERANCE) else {
-        return read_percent("5", 5);
-    };
-    match text.parse::<u8>() {
-        Ok(percent) => read_percent(text, percent),
-        Err(_) => Err(Complaint::Unfit(TOLERANCE, text, "3, 4 or 5 percent")),
-    }
-}
-
-fn read_percent<'a>(text: &'a str, percent: u8) -> Result<Monthly, Complaint<'a>> {
-    match Monthly::new(percent) {
-        Ok(option) => Ok(option),
-        Err(_) => Err(Complaint::Unfit(TOLERANCE, text, "3, 4 or 5 percent")),
-    }
-}
-
-fn read_choice(words: &[String]) -> Result<Choice, Complaint<'_>> {
-    let text = required(words, OPTION)?;
-    if text == "monthly" {
-        return Ok(Choice::Monthly(read_tolerance(words)?));
-    }
-    if text != "self-balancing" {
-        return Err(Complaint::Unfit(OPTION, text, "'monthly' or 'self-balancing'"));
-    }
-    match value_of(words, TOLERANCE) {
-        None => Ok(Choice::SelfBalancing),
-        Some(_) => Err(Complaint::NoTolerance),
-    }
-}
-
-fn read_layout(words: &[String]) -> Result<Layout, Complaint<'_>> {
-    let Some(text) = value_of(words, FORMAT) else {
-        return Ok(Layout::Table);
-    };
-    if text == "table" {
-        return Ok(Layout::Table);
-    }
-    if text == "csv" {
-        return Ok(Layout::Csv);
-    }
-    Err(Complaint::Unfit(FORMAT, text, "'table' or 'csv'"))
-}
-
-fn read_statement(words: &[String]) -> Result<Statement, Complaint<'_>> {
-    let usage = read_quantity(words, USAGE)?;
-    let monthly_quantity = read_quantity(words, MONTHLY_QUANTITY)?;
-    let imbalance = read_imbalance(words)?;
-    Ok(Statement {
-        usage,
-        monthly_quantity,
-        imbalance,
-    })
-}
-
-fn read_prices(words: &[String]) -> Result<TierPrices, Complaint<'_>> {
-    let one_over = read_price(words, TIER_ONE_OVER)?;
-    let one_under = read_price(words, TIER_ONE_UNDER)?;
-    let two_over = read_price(words, TIER_TWO_OVER)?;
-    let two_under = read_price(words, TIER_TWO_UNDER)?;
-    Ok(TierPrices {
-        one_over,
-        one_under,
-        two_over,
-        two_under,
-    })
-}
-
-fn read_request(words: &[String]) -> Result<Request, Complaint<'_>> {
-    check_flags(words, &QUOTE_FLAGS)?;
-    let choice = read_choice(words)?;
-    let statement = read_statement(words)?;
-    let prices = read_prices(words)?;
-    let layout = read_layout(words)?;
-    Ok(Request {
-        choice,
-        statement,
-        prices,
-        layout,
-    })
+fn read_quote_task(words: &[String]) -> Result<Command<'_>, Complaint<'_>> {
+    let pairs = Pairs::new(words, &QUOTE_FLAGS)?;
+    Ok(Command::Quote(pairs.request()?))
 }
 
 fn read_prices_task(words: &[String]) -> Result<Command<'_>, Complaint<'_>> {
-    check_flags(words, &PRICES_FLAGS)?;
-    let file = required(words, PRICES)?;
-    let layout = read_layout(words)?;
-    Ok(Command::Prices(file, layout))
+    let pairs = Pairs::new(words, &PRICES_FLAGS)?;
+    Ok(Command::Prices(pairs.required(PRICES)?, pairs.layout()?))
 }
 
 /// Whether help is asked for, anywhere on the line.
 fn asks_for_help(words: &[String]) -> bool {
-    for word in words {
-        if word.as_str() == "--help" || word.as_str() == "-h" {
-            return true;
-        }
-    }
-    false
+    words
+        .iter()
+        .any(|word| matches!(word.as_str(), "--help" | "-h"))
 }
 
 /// What the words after the program's name ask for. With none, or with the task alone, the sample is quoted.
@@ -280,24 +235,15 @@ pub(crate) fn read_command(words: &[String]) -> Result<Command<'_>, Complaint<'_
     if asks_for_help(words) {
         return Ok(Command::Help);
     }
-    let Some(first) = words.first() else {
+    let Some((task, rest)) = words.split_first() else {
         return Ok(Command::Quote(sample()));
     };
-    let task = first.as_str();
-    if task == "help" {
-        return Ok(Command::Help);
+    match task.as_str() {
+        "help" => Ok(Command::Help),
+        "--version" => Ok(Command::Version),
+        "prices" => read_prices_task(rest),
+        "quote" if rest.is_empty() => Ok(Command::Quote(sample())),
+        "quote" => read_quote_task(rest),
+        word => Err(Complaint::UnknownCommand(word)),
     }
-    if task == "--version" {
-        return Ok(Command::Version);
-    }
-    if task == "prices" {
-        return read_prices_task(&words[1..]);
-    }
-    if task != "quote" {
-        return Err(Complaint::UnknownCommand(task));
-    }
-    if words.len() == 1 {
-        return Ok(Command::Quote(sample()));
-    }
-    Ok(Command::Quote(read_request(&words[1..])?))
 }

@@ -2,46 +2,46 @@
 #![tactic(auto)]
 
 mod arguments;
-mod dollars;
 mod help;
 mod month_cards;
 mod price_file;
 mod prices;
 mod prices_report;
-mod report;
+mod quote_report;
 mod request;
 
-use arguments::Command;
+use arguments::{Command, read_command};
 use balancing::SelfBalancing;
+use quote::Quote;
 use request::{Choice, Request};
 use std::process::ExitCode;
 use std::{env, io};
 
-fn run_quote(rt: &HostRuntime, request: &Request) -> io::Result<ExitCode> {
+fn run_quote(rt: &HostRuntime, request: &Request) -> io::Result<()> {
+    // A match, since the two options are of two types: each arm calls the quote that is made for its own.
     let quote = match request.choice {
-        Choice::Monthly(option) => request.statement.quote(&option, &request.prices),
-        Choice::SelfBalancing => request.statement.quote(&SelfBalancing, &request.prices),
+        Choice::Monthly(option) => Quote::new(&request.statement, &option, &request.prices),
+        Choice::SelfBalancing => Quote::new(&request.statement, &SelfBalancing, &request.prices),
     };
-    report::print_quote(rt, request, &quote)?;
+    quote_report::print_quote(rt, request, &quote)
+}
+
+/// Does what is asked for.
+fn run(rt: &HostRuntime, command: &Command<'_>) -> io::Result<ExitCode> {
+    match command {
+        Command::Quote(request) => run_quote(rt, request)?,
+        Command::Prices(file, layout) => return prices::run_prices(rt, file, *layout),
+        Command::Help => help::print_help(rt)?,
+        Command::Version => help::print_version(rt)?,
+    }
     Ok(ExitCode::SUCCESS)
 }
 
 fn main(rt: HostRuntime) -> io::Result<ExitCode> {
-    let mut words = Vec::new(rt.alloc());
-    for word in env::args(&rt)?.skip(1) {
-        words.push(word)?;
-    }
-    match arguments::read_command(words.as_slice()) {
-        Ok(Command::Quote(request)) => run_quote(&rt, &request),
-        Ok(Command::Prices(file, layout)) => prices::run_prices(&rt, file, layout),
-        Ok(Command::Help) => {
-            help::print_help(&rt)?;
-            Ok(ExitCode::SUCCESS)
-        }
-        Ok(Command::Version) => {
-            help::print_version(&rt)?;
-            Ok(ExitCode::SUCCESS)
-        }
+    let words: Vec<String> = env::args(&rt)?.skip(1).collect(rt.alloc())?;
+    // A match, and no `?`: an error from `main` is printed in other words.
+    match read_command(words.as_slice()) {
+        Ok(command) => run(&rt, &command),
         Err(why) => {
             eprintln!(rt; "settle: {why}")?;
             Ok(ExitCode::FAILURE)

@@ -1,180 +1,140 @@
-// Makes each month's card from the rows of a price file.
+// Makes a month's card from its rows of a price file.
 use crate::price_file::{Entry, Name};
 use balancing::TierPrices;
-use cards::{FixedCard, IndexCard, Published};
+use cards::{Card, FixedCard, IndexCard, Published, Terms};
 use series::PriceSeries;
-use std::fmt;
 use tariff::{Fault, Month};
+use thiserror::Error;
 
-/// What became of a month: a card of one of the two kinds, or the refusal of one.
+/// A month's card, of one of the two kinds.
 #[derive(Clone, Copy)]
-pub(crate) enum Made {
+pub(crate) enum MonthCard {
     Index(IndexCard, Published),
     Fixed(FixedCard),
-    Refused(Fault),
+}
+
+impl MonthCard {
+    pub(crate) fn terms(&self) -> Terms {
+        match self {
+            MonthCard::Index(card, _) => card.terms(),
+            MonthCard::Fixed(card) => card.terms(),
+        }
+    }
 }
 
 /// Why rows that are right each for itself do not make a month.
-#[derive(Clone, Copy)]
+#[derive(Clone, Copy, Debug, Error)]
 pub(crate) enum Problem {
+    #[error("{0}: '{1}' is given twice for its month")]
     GivenTwice(usize, Name),
+    #[error("{0}: {1} has rows of an index card and of a fixed card")]
     BothKinds(usize, Month),
+    #[error(" {0}: '{1}' has no price before the month")]
     NoPriceBefore(Month, Name),
+    #[error(" {0}: there is no row for '{1}'")]
     NoRow(Month, Name),
+    #[error("{0}: {1}")]
     RowRefused(usize, Fault),
 }
 
-impl fmt::Display for Problem {
-    fn fmt<W: fmt::Write>(&self, f: &mut fmt::Formatter<W>) -> fmt::Result {
-        match self {
-            Problem::GivenTwice(line, name) => {
-                let name = name.text();
-                write!(f, "{line}: '{name}' is given twice for its month")
-            }
-            Problem::BothKinds(line, month) => write!(
-                f,
-                "{line}: {month} has rows of an index card and of a fixed card"
-            ),
-            Problem::NoPriceBefore(month, name) => {
-                let name = name.text();
-                write!(f, " {month}: '{name}' has no price before the month")
-            }
-            Problem::NoRow(month, name) => {
-                let name = name.text();
-                write!(f, " {month}: there is no row for '{name}'")
-            }
-            Problem::RowRefused(line, fault) => write!(f, "{line}: {fault}"),
-        }
-    }
-}
-
-impl Entry {
-    fn is_for(&self, month: Month, name: Name) -> bool {
-        self.month.same_as(month) && self.name as u8 == name as u8
-    }
-}
-
 /// A price as the cards take it; what does not fit is past every limit there.
+// No `From`, which may lose nothing, and no `try_from` alone: the cards refuse what does not fit, as they do any price past a limit.
 fn narrow(value: u64) -> u32 {
-    if value > 4_000_000_000 {
-        u32::MAX
-    } else {
-        value as u32
-    }
+    u32::try_from(value).unwrap_or(u32::MAX)
 }
 
-/// The last row for a day of a series; day 0 is the price before the month.
-fn last_of(entries: &[Entry], month: Month, name: Name, day: u8) -> Option<Entry> {
-    let mut found = None;
-    for entry in entries {
-        if entry.is_for(month, name) && entry.day == day {
-            found = Some(*entry);
+/// A month's rows, in the order of the file.
+#[derive(Clone, Copy)]
+struct Rows<'a> {
+    month: Month,
+    entries: &'a [Entry],
+}
+
+impl Rows<'_> {
+    /// The one row of a name that has no day.
+    fn only(&self, name: Name) -> Result<u32, Problem> {
+        let mut found = self.entries.iter().filter(|entry| entry.name == name);
+        let first = found.next().ok_or(Problem::NoRow(self.month, name))?;
+        // A match, since here it is a row too many, and not the want of one, that is the problem.
+        match found.next() {
+            Some(second) => Err(Problem::GivenTwice(second.line, name)),
+            None => Ok(narrow(first.value)),
         }
     }
-    found
-}
 
-/// The one row of a name that has no day.
-fn only(entries: &[Entry], month: Month, name: Name) -> Result<u32, Problem> {
-    let mut found: Option<Entry> = None;
-    for entry in entries {
-        if entry.is_for(month, name) {
-            if found.is_some() {
-                return Err(Problem::GivenTwice(entry.line, name));
-            }
-            found = Some(*entry);
-        }
-    }
-    match found {
-        Some(entry) => Ok(narrow(entry.value)),
-        None => Err(Problem::NoRow(month, name)),
-    }
-}
-
-fn read_series(entries: &[Entry], month: Month, name: Name) -> Result<PriceSeries, Problem> {
-    let Some(before) = last_of(entries, month, name, 0) else {
-        return Err(Problem::NoPriceBefore(month, name));
-    };
-    let mut series = match PriceSeries::new(month.year(), month.number(), narrow(before.value)) {
-        Ok(series) => series,
-        Err(fault) => return Err(Problem::RowRefused(before.line, fault)),
-    };
-    for entry in entries {
-        if entry.is_for(month, name) && entry.day > 0 {
-            if let Err(fault) = series.enter(entry.day, narrow(entry.value)) {
-                return Err(Problem::RowRefused(entry.line, fault));
+    /// The prices of a point; where rows share a day, the last one counts.
+    fn series(&self, name: Name) -> Result<PriceSeries, Problem> {
+        let before = self
+            .entries
+            .iter()
+            .rfind(|entry| entry.name == name && entry.day.is_none())
+            .ok_or(Problem::NoPriceBefore(self.month, name))?;
+        let mut series = PriceSeries::new(
+            self.month.year(),
+            self.month.number(),
+            narrow(before.value),
+        ).map_err(|fault| Problem::RowRefused(before.line, fault))?;
+        for entry in self.entries.iter().filter(|entry| entry.name == name) {
+            if let Some(day) = entry.day {
+                series
+                    .enter(day, narrow(entry.value))
+                    .map_err(|fault| Problem::RowRefused(entry.line, fault))?;
             }
         }
+        Ok(series)
     }
-    Ok(series)
-}
 
-fn read_published(entries: &[Entry], month: Month) -> Result<Published, Problem> {
-    let malin_a = read_series(entries, month, Name::MalinA)?;
-    let malin_b = read_series(entries, month, Name::MalinB)?;
-    let topock_a = read_series(entries, month, Name::TopockA)?;
-    let topock_b = read_series(entries, month, Name::TopockB)?;
-    let citygate = read_series(entries, month, Name::Citygate)?;
-    let malin_supply = only(entries, month, Name::MalinSupply)?;
-    let topock_supply = only(entries, month, Name::TopockSupply)?;
-    let bid_week = only(entries, month, Name::BidWeek)?;
-    let citygate_index = only(entries, month, Name::CitygateIndex)?;
-    Ok(Published {
-        malin_a,
-        malin_b,
-        topock_a,
-        topock_b,
-        citygate,
-        malin_supply,
-        topock_supply,
-        bid_week,
-        citygate_index,
-    })
-}
+    fn published(&self) -> Result<Published, Problem> {
+        Ok(Published {
+            malin_a: self.series(Name::MalinA)?,
+            malin_b: self.series(Name::MalinB)?,
+            topock_a: self.series(Name::TopockA)?,
+            topock_b: self.series(Name::TopockB)?,
+            citygate: self.series(Name::Citygate)?,
+            malin_supply: self.only(Name::MalinSupply)?,
+            topock_supply: self.only(Name::TopockSupply)?,
+            bid_week: self.only(Name::BidWeek)?,
+            citygate_index: self.only(Name::CitygateIndex)?,
+        })
+    }
 
-fn read_tiers(entries: &[Entry], month: Month) -> Result<TierPrices, Problem> {
-    let one_over = only(entries, month, Name::TierOneOver)?;
-    let one_under = only(entries, month, Name::TierOneUnder)?;
-    let two_over = only(entries, month, Name::TierTwoOver)?;
-    let two_under = only(entries, month, Name::TierTwoUnder)?;
-    Ok(TierPrices {
-        one_over,
-        one_under,
-        two_over,
-        two_under,
-    })
-}
+    fn tiers(&self) -> Result<TierPrices, Problem> {
+        Ok(TierPrices {
+            one_over: self.only(Name::TierOneOver)?,
+            one_under: self.only(Name::TierOneUnder)?,
+            two_over: self.only(Name::TierTwoOver)?,
+            two_under: self.only(Name::TierTwoUnder)?,
+        })
+    }
 
-/// Whether the month's card is a fixed one; none where the month has no row.
-fn is_fixed(entries: &[Entry], month: Month) -> Result<Option<bool>, Problem> {
-    let mut found: Option<bool> = None;
-    for entry in entries {
-        if entry.month.same_as(month) {
-            let fixed = entry.name.is_fixed();
-            match found {
-                Some(kind) if kind != fixed => return Err(Problem::BothKinds(entry.line, month)),
-                _ => found = Some(fixed),
-            }
+    /// Whether the month's card is a fixed one, as its first row says; no other row may differ.
+    fn is_fixed(&self) -> Result<bool, Problem> {
+        let fixed = self
+            .entries
+            .first()
+            .is_some_and(|entry| entry.name.is_fixed());
+        // A match, since here it is a row that is found, and not the want of one, that is the problem.
+        match self
+            .entries
+            .iter()
+            .find(|entry| entry.name.is_fixed() != fixed)
+        {
+            Some(entry) => Err(Problem::BothKinds(entry.line, self.month)),
+            None => Ok(fixed),
         }
     }
-    Ok(found)
 }
 
-/// The month's card, or none where the file has no row for it.
-pub(crate) fn month_card(entries: &[Entry], month: Month) -> Result<Option<Made>, Problem> {
-    let Some(fixed) = is_fixed(entries, month)? else {
-        return Ok(None);
-    };
-    if fixed {
-        let tiers = read_tiers(entries, month)?;
-        return match FixedCard::new(month.year(), month.number(), tiers) {
-            Ok(card) => Ok(Some(Made::Fixed(card))),
-            Err(fault) => Ok(Some(Made::Refused(fault))),
-        };
+/// The card of a month, or its refusal, from the month's rows.
+pub(crate) fn month_card(
+    month: Month,
+    entries: &[Entry],
+) -> Result<Result<MonthCard, Fault>, Problem> {
+    let rows = Rows { month, entries };
+    if rows.is_fixed()? {
+        let tiers = rows.tiers()?;
+        return Ok(FixedCard::new(month.year(), month.number(), tiers).map(MonthCard::Fixed));
     }
-    let published = read_published(entries, month)?;
-    match IndexCard::new(&published) {
-        Ok(card) => Ok(Some(Made::Index(card, published))),
-        Err(fault) => Ok(Some(Made::Refused(fault))),
-    }
+    let published = rows.published()?;
+    Ok(IndexCard::new(&published).map(|card| MonthCard::Index(card, published)))
 }

@@ -1,108 +1,129 @@
 // The task `prices`: from a price file to each month's card.
-use crate::month_cards::{Made, month_card};
-use crate::price_file::{Entry, HEADER, read_row};
-use crate::prices_report::print_made;
+use crate::month_cards::{MonthCard, Problem, month_card};
+use crate::price_file::{Entry, HEADER, Misread, read_row};
+use crate::prices_report::{print_header, print_month};
 use crate::request::Layout;
+use std::alloc::{AllocError, AllocFailed, Global};
+use std::collections::BTreeMap;
 use std::process::ExitCode;
 use std::{fs, io};
-use tariff::Month;
+use tariff::{Fault, Month};
+use thiserror::Error;
 
-/// A month and what became of it.
-#[derive(Clone, Copy)]
-struct MonthCard {
-    month: Month,
-    made: Made,
+/// The rows of each month, in the order of the file.
+type Months = BTreeMap<Month, Vec<Entry>>;
+
+/// The card of each month, or its refusal, in the order of the calendar.
+type Cards = Vec<(Month, Result<MonthCard, Fault>)>;
+
+/// What is wrong with a price file, in words that follow the file's name and a colon.
+#[derive(Clone, Copy, Debug, Error)]
+enum Wrong<'a> {
+    #[error("1: the first line is not '{header}'", header = HEADER)]
+    Header,
+    #[error("{0}: {1}")]
+    Row(usize, Misread<'a>),
+    #[error(transparent)]
+    Month(Problem),
 }
 
-/// Reads every row, and says of each bad one which line it is and why; answers how many were bad.
-fn read_rows(
-    rt: &HostRuntime,
-    file: &str,
-    text: &str,
-    entries: &mut Vec<Entry>,
-) -> io::Result<usize> {
-    let mut bad: usize = 0;
-    for (i, row) in text.lines().enumerate() {
-        let line = i.saturating_add(1);
-        if i == 0 || row.is_empty() {
+/// Why a price file gives no cards: all that is wrong with it, or a want of memory.
+#[derive(Drop)]
+enum Failure<'a> {
+    Wrong(Vec<Wrong<'a>>),
+    OutOfMemory(AllocError),
+}
+
+// By hand: `thiserror` would write both `From`, but asks for one text of each failure, and a list is told line by line.
+impl From<AllocError> for Failure<'_> {
+    fn from(why: AllocError) -> Self {
+        Failure::OutOfMemory(why)
+    }
+}
+
+impl<T: Drop> From<AllocFailed<T>> for Failure<'_> {
+    fn from(why: AllocFailed<T>) -> Self {
+        Failure::OutOfMemory(AllocError::from(why))
+    }
+}
+
+/// What was made of a file, if nothing is wrong with it.
+fn unless_wrong<T: Drop>(made: T, wrong: Vec<Wrong<'_>>) -> Result<T, Failure<'_>> {
+    if wrong.is_empty() {
+        Ok(made)
+    } else {
+        Err(Failure::Wrong(wrong))
+    }
+}
+
+/// Reads every row below the header; an empty one is passed over.
+fn read_rows(alloc: Global, text: &str) -> Result<Months, Failure<'_>> {
+    let mut months = BTreeMap::new(alloc);
+    let mut wrong = Vec::new(alloc);
+    if text.lines().next() != Some(HEADER) {
+        wrong.push(Wrong::Header)?;
+        return Err(Failure::Wrong(wrong));
+    }
+    for (line, row) in (1usize..).zip(text.lines()).skip(1) {
+        if row.is_empty() {
             continue;
         }
         match read_row(line, row) {
-            Ok(entry) => entries.push(entry)?,
-            Err(why) => {
-                eprintln!(rt; "settle: {file}:{line}: {why}")?;
-                bad = bad.saturating_add(1);
-            }
+            Ok(entry) => months
+                .entry(entry.month)?
+                .or_insert(Vec::new(alloc))
+                .push(entry)?,
+            Err(why) => wrong.push(Wrong::Row(line, why))?,
         }
     }
-    Ok(bad)
+    unless_wrong(months, wrong)
 }
 
-fn has_header(text: &str) -> bool {
-    match text.lines().next() {
-        Some(row) => row == HEADER,
-        None => false,
-    }
-}
-
-/// Keeps a month's card, if the month has one.
-fn keep(made: &mut Vec<MonthCard>, month: Month, found: Option<Made>) -> io::Result<()> {
-    match found {
-        Some(card) => made.push(MonthCard { month, made: card })?,
-        None => {}
-    }
-    Ok(())
-}
-
-/// Makes the card of each month that has rows, in the order of the calendar; answers how many months have a problem.
-fn make_cards(
-    rt: &HostRuntime,
-    file: &str,
-    entries: &[Entry],
-    made: &mut Vec<MonthCard>,
-) -> io::Result<usize> {
-    let mut bad: usize = 0;
-    for year in 2000..2100u16 {
-        for number in 1..13u8 {
-            if let Some(month) = Month::new(year, number) {
-                match month_card(entries, month) {
-                    Ok(found) => keep(made, month, found)?,
-                    Err(why) => {
-                        eprintln!(rt; "settle: {file}:{why}")?;
-                        bad = bad.saturating_add(1);
-                    }
-                }
-            }
+/// Makes the card of each month that has rows.
+fn make_cards(alloc: Global, text: &str) -> Result<Cards, Failure<'_>> {
+    let mut cards = Vec::new(alloc);
+    let mut wrong = Vec::new(alloc);
+    for (month, entries) in &read_rows(alloc, text)? {
+        match month_card(*month, entries.as_slice()) {
+            Ok(card) => cards.push((*month, card))?,
+            Err(why) => wrong.push(Wrong::Month(why))?,
         }
     }
-    Ok(bad)
+    unless_wrong(cards, wrong)
 }
 
-/// Prints the cards; answers how many were refused.
+/// Prints the cards, and says of each refused one why; a refused card makes the answer a failure.
 fn print_cards(
     rt: &HostRuntime,
     file: &str,
     layout: Layout,
-    cards: &[MonthCard],
-) -> io::Result<usize> {
-    let mut refused: usize = 0;
-    if let Layout::Csv = layout {
-        println!(rt; "month,name,dollars")?;
-    }
-    for card in cards {
-        let month = card.month;
-        print_made(rt, layout, month, &card.made)?;
-        if let Made::Refused(fault) = card.made {
+    cards: &Cards,
+) -> io::Result<ExitCode> {
+    print_header(rt, layout)?;
+    for (month, card) in cards {
+        print_month(rt, layout, *month, card)?;
+        if let Err(fault) = card {
             eprintln!(rt; "settle: {file}: {month}: {fault}")?;
-            refused = refused.saturating_add(1);
         }
     }
-    Ok(refused)
+    if cards.iter().any(|(_, card)| card.is_err()) {
+        return Ok(ExitCode::FAILURE);
+    }
+    Ok(ExitCode::SUCCESS)
+}
+
+/// Says all that is wrong with a file, a line each.
+fn tell(rt: &HostRuntime, file: &str, wrong: &[Wrong<'_>]) -> io::Result<ExitCode> {
+    for why in wrong {
+        eprintln!(rt; "settle: {file}:{why}")?;
+    }
+    Ok(ExitCode::FAILURE)
 }
 
 /// Reads a price file and prints each month's card with its working; nothing is printed where a row is bad. What is wrong is told, and
 /// then the answer is a failure.
 pub(crate) fn run_prices(rt: &HostRuntime, file: &str, layout: Layout) -> io::Result<ExitCode> {
+    // A match, and no `?`: an unread file is told here, and the program then ends as it does for a wrong one.
     let text = match fs::read_to_string(rt, file) {
         Ok(text) => text,
         Err(why) => {
@@ -110,20 +131,9 @@ pub(crate) fn run_prices(rt: &HostRuntime, file: &str, layout: Layout) -> io::Re
             return Ok(ExitCode::FAILURE);
         }
     };
-    if !has_header(text.as_str()) {
-        eprintln!(rt; "settle: {file}:1: the first line is not '{HEADER}'")?;
-        return Ok(ExitCode::FAILURE);
+    match make_cards(rt.alloc(), text.as_str()) {
+        Ok(cards) => print_cards(rt, file, layout, &cards),
+        Err(Failure::Wrong(wrong)) => tell(rt, file, wrong.as_slice()),
+        Err(Failure::OutOfMemory(why)) => Err(io::Error::from(why)),
     }
-    let mut entries = Vec::new(rt.alloc());
-    let mut made = Vec::new(rt.alloc());
-    if read_rows(rt, file, text.as_str(), &mut entries)? > 0 {
-        return Ok(ExitCode::FAILURE);
-    }
-    if make_cards(rt, file, entries.as_slice(), &mut made)? > 0 {
-        return Ok(ExitCode::FAILURE);
-    }
-    if print_cards(rt, file, layout, made.as_slice())? > 0 {
-        return Ok(ExitCode::FAILURE);
-    }
-    Ok(ExitCode::SUCCESS)
 }

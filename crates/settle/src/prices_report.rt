@@ -1,100 +1,66 @@
 // Prints the cards of a price file, each with its working.
-use crate::dollars::Dollars;
-use crate::month_cards::Made;
+use crate::month_cards::MonthCard;
 use crate::request::Layout;
-use balancing::TierPrices;
-use cards::{Card, IndexCard, Published, Terms};
-use std::io;
-use tariff::Month;
+use cards::{Card, IndexCard, Point, Published, Terms, Working};
+use report::Dollars;
+use std::{fmt, io};
+use tariff::{Fault, Month};
 
-/// A line of a card: what it is, and its dollars.
-fn print_item(rt: &HostRuntime, name: &str, dollars: Dollars) -> io::Result<()> {
-    let text = format!(in rt.alloc(); "{dollars}")?;
-    println!(rt; "  {name:<34}{text:>14}")
+/// A card's six prices, in millionths of a dollar: each with its name in a table, and its name for spreadsheets.
+fn card_prices(terms: &Terms) -> [(&'static str, &'static str, u32); 6] {
+    let tiers = terms.tiers;
+    [
+        ("Tier I over", "tier-one-over", tiers.one_over),
+        ("Tier I under", "tier-one-under", tiers.one_under),
+        ("Tier II over", "tier-two-over", tiers.two_over),
+        ("Tier II under", "tier-two-under", tiers.two_under),
+        ("noncompliance", "noncompliance", terms.noncompliance),
+        ("credit", "credit", terms.credit),
+    ]
 }
 
-fn print_tiers(rt: &HostRuntime, tiers: &TierPrices) -> io::Result<()> {
-    print_item(rt, "Tier I over", Dollars::OnCard(tiers.one_over))?;
-    print_item(rt, "Tier I under", Dollars::OnCard(tiers.one_under))?;
-    print_item(rt, "Tier II over", Dollars::OnCard(tiers.two_over))?;
-    print_item(rt, "Tier II under", Dollars::OnCard(tiers.two_under))
+/// A line of a card: what it is, and its number.
+fn print_item<N: fmt::Display + Drop>(rt: &HostRuntime, name: &str, number: N) -> io::Result<()> {
+    let text = format!(in rt.alloc(); "{number}")?;
+    println!(rt; "  {name:<34}{text:>14}")
 }
 
 fn print_terms(rt: &HostRuntime, terms: &Terms) -> io::Result<()> {
     println!(rt; "  Card prices, dollars a Dth")?;
-    print_tiers(rt, &terms.tiers)?;
-    print_item(rt, "noncompliance", Dollars::OnCard(terms.noncompliance))?;
-    print_item(rt, "credit", Dollars::OnCard(terms.credit))
+    for (name, _, price) in card_prices(terms) {
+        print_item(rt, name, Dollars::OnCard(price))?;
+    }
+    Ok(())
 }
 
-fn print_points(rt: &HostRuntime, card: &IndexCard) -> io::Result<()> {
-    let working = card.working();
-    print_item(
-        rt,
-        "Malin low, five smallest doubles",
-        Dollars::Published(working.malin.low),
-    )?;
-    print_item(
-        rt,
-        "Malin high, five largest doubles",
-        Dollars::Published(working.malin.high),
-    )?;
-    print_item(
-        rt,
-        "Malin smallest double",
-        Dollars::Published(working.malin.smallest as u64),
-    )?;
-    print_item(
-        rt,
-        "Malin largest double",
-        Dollars::Published(working.malin.largest as u64),
-    )?;
-    print_item(
-        rt,
-        "Topock low, five smallest doubles",
-        Dollars::Published(working.topock.low),
-    )?;
-    print_item(
-        rt,
-        "Topock high, five largest doubles",
-        Dollars::Published(working.topock.high),
-    )?;
-    print_item(
-        rt,
-        "Topock smallest double",
-        Dollars::Published(working.topock.smallest as u64),
-    )?;
-    print_item(
-        rt,
-        "Topock largest double",
-        Dollars::Published(working.topock.largest as u64),
-    )
+/// What the doubles of a point come to.
+fn print_point(rt: &HostRuntime, place: &str, point: &Point) -> io::Result<()> {
+    let items = [
+        ("low, five smallest doubles", point.low),
+        ("high, five largest doubles", point.high),
+        ("smallest double", u64::from(point.smallest)),
+        ("largest double", u64::from(point.largest)),
+    ];
+    for (what, price) in items {
+        let name = format!(in rt.alloc(); "{place} {what}")?;
+        print_item(rt, name.as_str(), Dollars::Published(price))?;
+    }
+    Ok(())
 }
 
-fn print_weights(rt: &HostRuntime, card: &IndexCard, published: &Published) -> io::Result<()> {
-    let working = card.working();
-    let malin = published.malin_supply;
-    let topock = published.topock_supply;
-    let dollars = working.citygate_dollars;
-    println!(rt; "  {:<34}{malin:>14}", "Malin supply, Dth")?;
-    println!(rt; "  {:<34}{topock:>14}", "Topock supply, Dth")?;
-    print_item(rt, "weighted low", Dollars::Published(working.weighted_low))?;
-    print_item(
-        rt,
-        "weighted high",
-        Dollars::Published(working.weighted_high),
-    )?;
-    print_item(
-        rt,
-        "bid-week index",
-        Dollars::Published(published.bid_week as u64),
-    )?;
-    print_item(
-        rt,
-        "Citygate's highest price",
-        Dollars::Published(working.citygate_high as u64),
-    )?;
-    println!(rt; "  {:<34}{dollars:>14}", "Citygate in whole dollars")
+fn print_weights(rt: &HostRuntime, working: &Working, published: &Published) -> io::Result<()> {
+    let items = [
+        ("weighted low", working.weighted_low),
+        ("weighted high", working.weighted_high),
+        ("bid-week index", u64::from(published.bid_week)),
+        ("Citygate's highest price", u64::from(working.citygate_high)),
+    ];
+    print_item(rt, "Malin supply, Dth", published.malin_supply)?;
+    print_item(rt, "Topock supply, Dth", published.topock_supply)?;
+    for (name, price) in items {
+        print_item(rt, name, Dollars::Published(price))?;
+    }
+    print_item(rt, "Citygate in whole dollars", working.citygate_dollars)
 }
 
 fn print_days(rt: &HostRuntime, published: &Published) -> io::Result<()> {
@@ -109,77 +75,60 @@ fn print_days(rt: &HostRuntime, published: &Published) -> io::Result<()> {
 }
 
 fn print_index(rt: &HostRuntime, card: &IndexCard, published: &Published) -> io::Result<()> {
+    let working = card.working();
     print_days(rt, published)?;
     println!(rt; "  Working, dollars")?;
-    print_points(rt, card)?;
-    print_weights(rt, card, published)
+    print_point(rt, "Malin", &working.malin)?;
+    print_point(rt, "Topock", &working.topock)?;
+    print_weights(rt, &working, published)
 }
 
-fn print_csv_row(rt: &HostRuntime, month: Month, name: &str, dollars: Dollars) -> io::Result<()> {
-    println!(rt; "{month},{name},{dollars}")
-}
-
-fn print_csv(rt: &HostRuntime, month: Month, terms: &Terms) -> io::Result<()> {
-    print_csv_row(
-        rt,
-        month,
-        "tier-one-over",
-        Dollars::OnCard(terms.tiers.one_over),
-    )?;
-    print_csv_row(
-        rt,
-        month,
-        "tier-one-under",
-        Dollars::OnCard(terms.tiers.one_under),
-    )?;
-    print_csv_row(
-        rt,
-        month,
-        "tier-two-over",
-        Dollars::OnCard(terms.tiers.two_over),
-    )?;
-    print_csv_row(
-        rt,
-        month,
-        "tier-two-under",
-        Dollars::OnCard(terms.tiers.two_under),
-    )?;
-    print_csv_row(
-        rt,
-        month,
-        "noncompliance",
-        Dollars::OnCard(terms.noncompliance),
-    )?;
-    print_csv_row(rt, month, "credit", Dollars::OnCard(terms.credit))
-}
-
-fn print_card(rt: &HostRuntime, layout: Layout, month: Month, terms: &Terms) -> io::Result<()> {
-    match layout {
-        Layout::Csv => print_csv(rt, month, terms),
-        Layout::Table => print_terms(rt, terms),
+/// A card with its working, or why there is none.
+fn print_table(rt: &HostRuntime, month: Month, card: &Result<MonthCard, Fault>) -> io::Result<()> {
+    match card {
+        Ok(MonthCard::Index(index, published)) => {
+            println!(rt; "{month}: index card")?;
+            print_index(rt, index, published)?;
+            print_terms(rt, &index.terms())
+        }
+        Ok(MonthCard::Fixed(fixed)) => {
+            println!(rt; "{month}: fixed card")?;
+            print_terms(rt, &fixed.terms())
+        }
+        Err(fault) => println!(rt; "{month}: no card: {fault}"),
     }
 }
 
-/// Prints what became of a month. A refused card is told of, and not printed.
-pub(crate) fn print_made(
+/// A line for each price of a card; none for a refused card.
+fn print_csv(rt: &HostRuntime, month: Month, card: &Result<MonthCard, Fault>) -> io::Result<()> {
+    if let Ok(card) = card {
+        for (_, name, price) in card_prices(&card.terms()) {
+            let dollars = Dollars::OnCard(price);
+            println!(rt; "{month},{name},{dollars}")?;
+        }
+    }
+    Ok(())
+}
+
+// Both functions below match on the layout: a trait with a type for each layout would only hand on the same calls.
+
+/// Prints what stands above the cards of all months.
+pub(crate) fn print_header(rt: &HostRuntime, layout: Layout) -> io::Result<()> {
+    match layout {
+        Layout::Table => Ok(()),
+        Layout::Csv => println!(rt; "month,name,dollars"),
+    }
+}
+
+/// Prints what became of a month.
+pub(crate) fn print_month(
     rt: &HostRuntime,
     layout: Layout,
     month: Month,
-    made: &Made,
+    card: &Result<MonthCard, Fault>,
 ) -> io::Result<()> {
-    match (made, layout) {
-        (Made::Refused(fault), Layout::Table) => println!(rt; "{month}: no card: {fault}"),
-        (Made::Refused(_), Layout::Csv) => Ok(()),
-        (Made::Fixed(card), Layout::Table) => {
-            println!(rt; "{month}: fixed card")?;
-            print_card(rt, layout, month, &card.terms())
-        }
-        (Made::Fixed(card), Layout::Csv) => print_card(rt, layout, month, &card.terms()),
-        (Made::Index(card, published), Layout::Table) => {
-            println!(rt; "{month}: index card")?;
-            print_index(rt, card, published)?;
-            print_card(rt, layout, month, &card.terms())
-        }
-        (Made::Index(card, _), Layout::Csv) => print_card(rt, layout, month, &card.terms()),
+    match layout {
+        Layout::Table => print_table(rt, month, card),
+        Layout::Csv => print_csv(rt, month, card),
     }
 }

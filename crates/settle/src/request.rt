@@ -1,6 +1,5 @@
 // What a quote is asked for.
-use balancing::{Monthly, TierPrices, Tolerance};
-use quote::Statement;
+use balancing::{Monthly, Statement, TierPrices, Tolerance};
 
 /// The option that an account elects.
 #[derive(Clone, Copy)]

@@ -1,7 +1,7 @@
 // A clerk's desk: where calls are entered, and what lies on it.
 use balancing::{Monthly, SelfBalancing};
 use book::Book;
-use cards::FixedCard;
+use cards::{AtHand, FixedCard};
 use records::{BillLine, Call, Trade};
 use register::Register;
 use report::{Journal, print_entry, print_pages};
@@ -14,8 +14,7 @@ pub(crate) struct Desk<'b, 't> {
     pub(crate) journal: Journal,
     pub(crate) bills: Register<'b, BillLine>,
     pub(crate) trades: Register<'t, Trade>,
-    pub(crate) settling: FixedCard,
-    pub(crate) closing: FixedCard,
+    pub(crate) cards: AtHand<FixedCard, FixedCard>,
 }
 
 impl Desk<'_, '_> {
@@ -24,25 +23,24 @@ impl Desk<'_, '_> {
         let entry = self.journal.perform(
             &mut self.book,
             &call,
-            &self.settling,
-            &self.closing,
+            &self.cards,
             &mut self.bills,
             &mut self.trades,
         );
         print_entry(rt, &entry)
     }
 
-    /// Posts an account's days of receipts and usage, from the first on; on one of them a flow order may be in effect.
+    /// Posts an account's days of receipts and usage, from the first on; a flow order may be in effect on one of them.
     pub(crate) fn post(
         &mut self,
         rt: &HostRuntime,
         account: u8,
-        order_day: u8,
+        order_day: Option<u8>,
         days: &[(u64, u64)],
     ) -> io::Result<()> {
-        for (day, gas) in (1..32u8).zip(days.iter()) {
-            let (receipts, usage) = *gas;
-            let order = if day == order_day { 1 } else { 0 };
+        // Days have numbers from 1 on, which a call holds.
+        for (day, &(receipts, usage)) in (1..32u8).zip(days) {
+            let order = u8::from(order_day == Some(day));
             self.enter(
                 rt,
                 Call::Post {

@@ -1,7 +1,7 @@
 // February: three accounts open, post their days, and the month is closed.
 use crate::days::{AGENT_FEBRUARY, CUSTOMER_FEBRUARY, GROUP_FEBRUARY, ORDER_DAY};
 use crate::desk::Desk;
-use records::Call;
+use records::{Call, Election, Kind};
 use std::io;
 
 /// A noncore agent that balances monthly.
@@ -19,8 +19,8 @@ fn open_accounts(rt: &HostRuntime, desk: &mut Desk<'_, '_>) -> io::Result<()> {
         rt,
         Call::Open {
             account: AGENT,
-            kind: 1,
-            election: 1,
+            kind: Kind::Noncore.number(),
+            election: Election::First.number(),
             monthly_quantity: 43_000,
         },
     )?;
@@ -28,8 +28,8 @@ fn open_accounts(rt: &HostRuntime, desk: &mut Desk<'_, '_>) -> io::Result<()> {
         rt,
         Call::Open {
             account: CUSTOMER,
-            kind: 1,
-            election: 1,
+            kind: Kind::Noncore.number(),
+            election: Election::First.number(),
             monthly_quantity: 8_000,
         },
     )?;
@@ -37,8 +37,8 @@ fn open_accounts(rt: &HostRuntime, desk: &mut Desk<'_, '_>) -> io::Result<()> {
         rt,
         Call::Open {
             account: GROUP,
-            kind: 2,
-            election: 2,
+            kind: Kind::Core.number(),
+            election: Election::Second.number(),
             monthly_quantity: 33_600,
         },
     )
@@ -46,13 +46,13 @@ fn open_accounts(rt: &HostRuntime, desk: &mut Desk<'_, '_>) -> io::Result<()> {
 
 fn post_days(rt: &HostRuntime, desk: &mut Desk<'_, '_>) -> io::Result<()> {
     rt.println("\nThe agent's days of February; on day 12 a flow order is in effect")?;
-    desk.post(rt, AGENT, ORDER_DAY, &AGENT_FEBRUARY)?;
+    desk.post(rt, AGENT, Some(ORDER_DAY), &AGENT_FEBRUARY)?;
     rt.println("\nThe customer's days")?;
-    desk.post(rt, CUSTOMER, ORDER_DAY, &CUSTOMER_FEBRUARY)?;
+    desk.post(rt, CUSTOMER, Some(ORDER_DAY), &CUSTOMER_FEBRUARY)?;
     rt.println(
         "\nThe core group's days: the order day's imbalance does not count against the daily limit",
     )?;
-    desk.post(rt, GROUP, ORDER_DAY, &GROUP_FEBRUARY)
+    desk.post(rt, GROUP, Some(ORDER_DAY), &GROUP_FEBRUARY)
 }
 
 /// February, from the opening of the accounts to the closing of the month.

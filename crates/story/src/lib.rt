@@ -10,7 +10,7 @@ mod prices;
 
 use balancing::{Monthly, SelfBalancing, Tolerance};
 use book::Book;
-use cards::Card;
+use cards::{AtHand, Card};
 use desk::Desk;
 use prices::{Cards, print_cards};
 use register::Register;
@@ -23,10 +23,12 @@ const INTRODUCTION: &str = "A balancing book over two months
   option 1 is Monthly within 5 percent (mark M), option 2 is Self-Balancing (mark S)
   each call is followed by its answer; quantities are in Dth, and over-delivery is positive";
 
-/// Says why the story cannot begin.
-fn refuse(rt: &HostRuntime, fault: Fault) -> io::Result<ExitCode> {
-    eprintln!(rt; "storyteller: {fault}")?;
-    Ok(ExitCode::FAILURE)
+/// The cards of the story, and an empty book that starts in its first month.
+fn begin() -> Result<(Cards, Book<Monthly, SelfBalancing>), Fault> {
+    let monthly = Monthly {
+        tolerance: Tolerance::Five,
+    };
+    Ok((Cards::new()?, Book::new(monthly, SelfBalancing, 2026, 2)?))
 }
 
 /// The story over an empty book.
@@ -41,31 +43,33 @@ fn tell_on(rt: &HostRuntime, book: Book<Monthly, SelfBalancing>, cards: &Cards) 
         journal: Journal::new(),
         bills,
         trades,
-        settling: cards.january,
-        closing: cards.february,
+        cards: AtHand {
+            settling: cards.january,
+            closing: cards.february,
+        },
     };
     february::tell(rt, &mut desk)?;
-    desk.settling = cards.february;
-    desk.closing = cards.march;
+    desk.cards = AtHand {
+        settling: cards.february,
+        closing: cards.march,
+    };
     march::tell(rt, &mut desk)?;
     ending::tell(rt, &desk)
 }
 
 /// Tells the story: every call with its answer, then every bill line, trade, page and sum.
 pub fn tell(rt: &HostRuntime) -> io::Result<ExitCode> {
-    let cards = match Cards::new() {
-        Ok(cards) => cards,
-        Err(fault) => return refuse(rt, fault),
-    };
-    let monthly = Monthly {
-        tolerance: Tolerance::Five,
-    };
-    let book = match Book::new(monthly, SelfBalancing, 2026, 2) {
-        Ok(book) => book,
-        Err(fault) => return refuse(rt, fault),
-    };
-    rt.println(INTRODUCTION)?;
-    print_cards(rt, &cards)?;
-    tell_on(rt, book, &cards)?;
-    Ok(ExitCode::SUCCESS)
+    // A match, and no `?`: a refusal is told here in the program's words.
+    match begin() {
+        Ok((cards, book)) => {
+            rt.println(INTRODUCTION)?;
+            print_cards(rt, &cards)?;
+            tell_on(rt, book, &cards)?;
+            Ok(ExitCode::SUCCESS)
+        }
+        Err(fault) => {
+            eprintln!(rt; "storyteller: {fault}")?;
+            Ok(ExitCode::FAILURE)
+        }
+    }
 }

@@ -2,11 +2,8 @@
 use crate::days::{AGENT_MARCH, GROUP_MARCH};
 use crate::desk::Desk;
 use crate::february::{AGENT, CUSTOMER, GROUP};
-use records::Call;
+use records::{Call, Component};
 use std::io;
-
-/// No day of March has a flow order.
-const NO_ORDER: u8 = 0;
 
 fn begin(rt: &HostRuntime, desk: &mut Desk<'_, '_>) -> io::Result<()> {
     rt.println(
@@ -28,11 +25,12 @@ fn begin(rt: &HostRuntime, desk: &mut Desk<'_, '_>) -> io::Result<()> {
     )
 }
 
+/// The days of March, none of which has a flow order.
 fn post_days(rt: &HostRuntime, desk: &mut Desk<'_, '_>) -> io::Result<()> {
     rt.println("\nThe agent's days of March, now with the customer's gas")?;
-    desk.post(rt, AGENT, NO_ORDER, &AGENT_MARCH)?;
+    desk.post(rt, AGENT, None, &AGENT_MARCH)?;
     rt.println("\nThe core group's days")?;
-    desk.post(rt, GROUP, NO_ORDER, &GROUP_MARCH)
+    desk.post(rt, GROUP, None, &GROUP_MARCH)
 }
 
 /// The core group's operating statement, and a trade from its option to the agent's.
@@ -52,9 +50,9 @@ fn trade(rt: &HostRuntime, desk: &mut Desk<'_, '_>) -> io::Result<()> {
         rt,
         Call::Offer {
             giver: GROUP,
-            gives: 1,
+            gives: Component::Statement.number(),
             taker: AGENT,
-            takes: 1,
+            takes: Component::Statement.number(),
             quantity: 150,
         },
     )?;

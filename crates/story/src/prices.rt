@@ -15,44 +15,42 @@ pub(crate) struct Cards {
 
 impl Cards {
     pub(crate) fn new() -> Result<Cards, Fault> {
-        let january = FixedCard::new(
-            2026,
-            1,
-            TierPrices {
-                one_over: 2_718_750,
-                one_under: 5_093_750,
-                two_over: 1_722_500,
-                two_under: 6_510_000,
-            },
-        )?;
-        let february = FixedCard::new(
-            2026,
-            2,
-            TierPrices {
-                one_over: 2_541_225,
-                one_under: 4_836_875,
-                two_over: 1_610_500,
-                two_under: 6_195_750,
-            },
-        )?;
-        let march = FixedCard::new(
-            2026,
-            3,
-            TierPrices {
-                one_over: 2_283_150,
-                one_under: 4_402_500,
-                two_over: 1_447_250,
-                two_under: 5_598_750,
-            },
-        )?;
         Ok(Cards {
-            january,
-            february,
-            march,
+            january: FixedCard::new(
+                2026,
+                1,
+                TierPrices {
+                    one_over: 2_718_750,
+                    one_under: 5_093_750,
+                    two_over: 1_722_500,
+                    two_under: 6_510_000,
+                },
+            )?,
+            february: FixedCard::new(
+                2026,
+                2,
+                TierPrices {
+                    one_over: 2_541_225,
+                    one_under: 4_836_875,
+                    two_over: 1_610_500,
+                    two_under: 6_195_750,
+                },
+            )?,
+            march: FixedCard::new(
+                2026,
+                3,
+                TierPrices {
+                    one_over: 2_283_150,
+                    one_under: 4_402_500,
+                    two_over: 1_447_250,
+                    two_under: 5_598_750,
+                },
+            )?,
         })
     }
 }
 
+// Price by price, and no loop: between the columns stand blanks of different widths.
 fn print_card(rt: &HostRuntime, card: &FixedCard) -> io::Result<()> {
     let terms = card.terms();
     let month = terms.month;
@@ -72,7 +70,8 @@ pub(crate) fn print_cards(rt: &HostRuntime, cards: &Cards) -> io::Result<()> {
     rt.println(
         "\nPrice cards, in dollars a Dth\n  month    Tier I over  Tier I under  Tier II over  Tier II under  noncompliance    credit",
     )?;
-    print_card(rt, &cards.january)?;
-    print_card(rt, &cards.february)?;
-    print_card(rt, &cards.march)
+    for card in [&cards.january, &cards.february, &cards.march] {
+        print_card(rt, card)?;
+    }
+    Ok(())
 }

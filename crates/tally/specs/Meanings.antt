@@ -1,5 +1,6 @@
 -- What the running tally means, and what feeding it comes to.
-use Rattle.std.specs.Prelude.{◌≡◌, ℕ, zero, suc, List, map, take, ℤ, pos, ◌+ℤ◌, Ok, Err, Result, slice_index_or}
+use Rattle.std.specs.Prelude.{◌≡◌, ℕ, zero, suc, List, map, take, ℤ, pos, ◌+ℤ◌, Result, slice_index_or}
+use Rattle.std.specs.Result.{MatchResult}
 use Rattle.tally.specs.Tallies.{Laid, Tally}
 use Rattle.tally.specs.Limits.{Fits}
 use Rattle.tally.specs.declared.numbers.Numbers.{Numbers}
@@ -29,5 +30,4 @@ together (suc k) n = together k n +ℤ n k
 
 -- either the tally is t after the call, or nothing changed, and no running tally can be t
 abbrev pub Counts : Running → Result Unit Uncounted → Running → Tally → Type 0
-Counts before (Ok _) after t = tally_of after ≡ t
-Counts before (Err _) after t = (after ≡ before) × (Fits t → ⊥)
+Counts before r after t = MatchResult r (λ _. tally_of after ≡ t) (λ _. (after ≡ before) × (Fits t → ⊥))

@@ -1,5 +1,6 @@
 -- The steps that feeding is made of.
-use Rattle.std.specs.Prelude.{◌≡◌, ℕ, false, cond, List, ℤ, pos, neg_ℤ, Ok, Err, Result, ◌==◌, slice_set}
+use Rattle.std.specs.Prelude.{◌≡◌, ℕ, false, cond, List, ℤ, pos, neg_ℤ, Result, ◌==◌, slice_set}
+use Rattle.std.specs.Result.{MatchResult}
 use Rattle.tally.specs.Tallies.{Laid, Tally, added, emptied, spent}
 use Rattle.tally.specs.Limits.{Fits}
 use Rattle.tally.specs.Meanings.{tally_of}
@@ -25,10 +26,8 @@ exchanged t o taker k = record { number = added taker (pos o.quantity) (added o.
 
 -- either the numbers are n after the step, or nothing changed, and no running tally has the numbers n
 abbrev pub Moves : Running → Result Unit Uncounted → Running → (ℕ → ℤ) → Type 0
-Moves before (Ok _) after n = tally_of after ≡ record { number = n; offers = (tally_of before).offers }
-Moves before (Err _) after n = (after ≡ before) × ((os : List Laid) → Fits (record { number = n; offers = os }) → ⊥)
+Moves before r after n = MatchResult r (λ _. tally_of after ≡ record { number = n; offers = (tally_of before).offers }) (λ _. (after ≡ before) × ((os : List Laid) → Fits (record { number = n; offers = os }) → ⊥))
 
 -- either the tally is t once the account a is emptied, or nothing changed, and no running tally can be t
 abbrev pub CountsBut : ℕ → Running → Result Unit Uncounted → Running → Tally → Type 0
-CountsBut a before (Ok _) after t = cleared a (tally_of after) ≡ t
-CountsBut a before (Err _) after t = (after ≡ before) × (Fits t → ⊥)
+CountsBut a before r after t = MatchResult r (λ _. cleared a (tally_of after) ≡ t) (λ _. (after ≡ before) × (Fits t → ⊥))

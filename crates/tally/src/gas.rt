@@ -6,19 +6,21 @@ ghost use Rattle.tally.specs.Limits.{most_moved};
 use records::BillLine;
 use tariff::BillKind;
 
+// The bounds of what a call moves stand in the clauses here and in `Tally` and `Numbers`: a number of 128 bits has no invariant to hold them.
+
 /// Receipts less usage.
 pub(crate) fn imbalance(receipts: u64, usage: u64) -> i128
     ensures value { result ≡ pos receipts -ℤ pos usage }
     ensures bound { unsigned_abs result ≤ most_moved }
 {
-    receipts as i128 - usage as i128
+    i128::from(receipts) - i128::from(usage)
 }
 
 /// Whether a line of this kind cashes gas out.
 fn cashes_out(kind: BillKind) -> bool
     ensures { result ≡ cashes_out kind }
 {
-    kind.number() <= 2
+    matches!(kind, BillKind::TierOne | BillKind::TierTwo)
 }
 
 /// The gas that a line cashes out.
@@ -33,13 +35,14 @@ fn cashed_by(line: &BillLine) -> i64
 }
 
 /// The gas that lines cash out.
-pub(crate) fn cashed_out(lines: &[BillLine]) -> i128
+pub fn cashed_out(lines: &[BillLine]) -> i128
     ensures value { result ≡ cashed_out lines.now }
     ensures bound { unsigned_abs result ≤ most_moved }
 {
+    // Not by `sum`, of which a proof leaves open that signed numbers stay within its type.
     let mut sum = 0;
     for line in lines {
-        sum += cashed_by(line) as i128;
+        sum += i128::from(cashed_by(line));
     }
     sum
 }

@@ -6,6 +6,8 @@ mod numbers;
 mod offers;
 mod tally;
 mod uncounted;
+mod writing;
 
+pub use gas::cashed_out;
 pub use tally::Tally;
 pub use uncounted::Uncounted;

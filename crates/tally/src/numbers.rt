@@ -1,9 +1,13 @@
 // The number of each account.
-ghost use Rattle.std.specs.Prelude.{◌≡◌, ◌≤◌, replicate, pos, ◌+ℤ◌, MatchOption, slice_index_or, unsigned_abs};
+ghost use Rattle.std.specs.Prelude.{◌≡◌, ◌≤◌, ◌+ℤ◌, unsigned_abs};
+ghost use Rattle.std.specs.Result.{MatchResult};
 ghost use Rattle.tally.specs.Tallies.{empty};
 ghost use Rattle.tally.specs.Limits.{Kept, most_moved};
 ghost use Rattle.tally.specs.Meanings.{numbers_of, together};
 ghost use Rattle.tally.specs.Steps.{placed};
+
+use crate::uncounted::Uncounted;
+use crate::writing::write;
 
 /// A number for each of 64 accounts; any other account has 0.
 #[derive(Clone, Copy)]
@@ -11,16 +15,10 @@ pub(crate) struct Numbers {
     held: [i64; 64],
 }
 
-/// Zeros give every account 0.
-fn zeros_are_empty()
-    ensures { (λ a. slice_index_or (replicate 64 (pos 0)) a (pos 0)) ≡ empty.number }
-{}
-
 impl Numbers {
     pub(crate) fn new() -> Numbers
         ensures { numbers_of result ≡ empty.number }
     {
-        zeros_are_empty();
         Numbers { held: [0; 64] }
     }
 
@@ -28,34 +26,29 @@ impl Numbers {
     pub(crate) fn of(&self, account: u8) -> i64
         ensures { result ≡ numbers_of self.now account }
     {
-        if account < 64 {
-            self.held[account as usize]
-        } else {
-            0
-        }
+        self.held.get(usize::from(account)).copied().unwrap_or(0)
     }
+
+    // The bound of what a call moves stands in the clauses, as in `gas`.
 
     /// The account's number and `by` together.
     fn sum(&self, account: u8, by: i128) -> i128
         requires { unsigned_abs by ≤ most_moved }
         ensures { result ≡ numbers_of self.now account +ℤ by }
     {
-        self.of(account) as i128 + by
+        i128::from(self.of(account)) + by
     }
 
-    /// The account's number with `by` more, or none where that has no place.
-    pub(crate) fn grown(&self, account: u8, by: i128) -> Option<i64>
+    /// The account's number with `by` more, where that has a place.
+    pub(crate) fn grown(&self, account: u8, by: i128) -> Result<i64, Uncounted>
         requires { unsigned_abs by ≤ most_moved }
-        ensures { MatchOption result (Kept account (numbers_of self.now account +ℤ by) → ⊥) (λ n. (n ≡ numbers_of self.now account +ℤ by) × Kept account n) }
+        ensures { MatchResult result (λ n. (n ≡ numbers_of self.now account +ℤ by) × Kept account n) (λ _. Kept account (numbers_of self.now account +ℤ by) → ⊥) }
     {
-        let sum = self.sum(account, by);
-        if account > 63 {
-            return if sum == 0 { Some(0) } else { None };
+        let sum = i64::try_from(self.sum(account, by)).map_err(|_| Uncounted)?;
+        if account > 63 && sum != 0 {
+            return Err(Uncounted);
         }
-        if sum < -9_223_372_036_854_775_808 || sum > 9_223_372_036_854_775_807 {
-            return None;
-        }
-        Some(sum as i64)
+        Ok(sum)
     }
 
     /// Gives the account another number.
@@ -63,18 +56,17 @@ impl Numbers {
         requires { Kept account number }
         ensures { numbers_of self.new ≡ placed account number (numbers_of self.old) }
     {
-        if account < 64 {
-            self.held[account as usize] = number;
-        }
+        write(&mut self.held, account, number);
     }
 
     /// All numbers together.
     pub(crate) fn total(&self) -> i128
         ensures { result ≡ together 64 (numbers_of self.now) }
     {
+        // Not by `sum`, of which a proof leaves open that signed numbers stay within its type.
         let mut sum = 0;
-        for account in 0..64 {
-            sum += self.of(account) as i128;
+        for number in &self.held {
+            sum += i128::from(*number);
         }
         sum
     }

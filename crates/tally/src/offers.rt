@@ -1,10 +1,15 @@
 // The offers by place.
-ghost use Rattle.std.specs.Prelude.{◌≡◌, ◌≤◌, true, [], ◌∷◌, ◌++◌, length, MatchBool, slice_index_or, slice_set};
+ghost use Rattle.std.specs.Prelude.{◌≡◌, ◌≤◌, true, [], ◌∷◌, ◌++◌, length, map, slice_index_or, slice_set};
+ghost use Rattle.std.specs.Result.{MatchResult};
 ghost use Rattle.tally.specs.Tallies.{nothing_laid};
 ghost use Rattle.tally.specs.Meanings.{laid_of, offers_of};
 ghost use Rattle.tally.specs.Steps.{struck};
 
+use crate::uncounted::Uncounted;
+use crate::writing::write;
+
 /// An offer that was laid: who gives how much, and whether it still stands.
+// A flag beside the offer, and no `Option`: by the definition of the tally a spent offer keeps its giver and its quantity.
 #[derive(Clone, Copy)]
 pub(crate) struct Laid {
     pub(crate) giver: u8,
@@ -31,16 +36,12 @@ impl Laid {
 }
 
 /// The offers laid since the last closing, the first at place 0.
+// Places with a count, and no `Vec`: nothing below the reports allocates, so that no call fails for want of memory.
 #[derive(Clone, Copy)]
 pub(crate) struct Offers {
     places: [Laid; 128],
     count: u8,
 }
-
-/// There are 128 places.
-fn has_all_places(places: &[Laid; 128])
-    ensures { length places.now ≡ 128 }
-{}
 
 impl Offers {
     pub(crate) fn new() -> Offers
@@ -52,43 +53,44 @@ impl Offers {
         }
     }
 
+    /// The offers that were laid.
+    fn laid(&self) -> &[Laid]
+        ensures { map laid_of result.now ≡ offers_of self.now }
+    {
+        &self.places[..usize::from(self.count).min(128)]
+    }
+
     /// The offer at a place; where none was laid, nothing stands.
     pub(crate) fn at(&self, place: u8) -> Laid
         ensures { laid_of result ≡ slice_index_or (offers_of self.now) place nothing_laid }
     {
-        has_all_places(&self.places);
-        if place < self.count && place < 128 {
-            self.places[place as usize]
-        } else {
-            NO_OFFER
-        }
+        self.laid()
+            .get(usize::from(place))
+            .copied()
+            .unwrap_or(NO_OFFER)
     }
 
     /// Lays an offer at the next place, if there is one.
-    pub(crate) fn lay(&mut self, giver: u8, quantity: u64) -> bool
-        ensures { MatchBool result (offers_of self.new ≡ offers_of self.old ++ (record { giver = giver; quantity = quantity; stands = true } ∷ [])) ((self.new ≡ self.old) × (128 ≤ length (offers_of self.old))) }
+    pub(crate) fn lay(&mut self, giver: u8, quantity: u64) -> Result<(), Uncounted>
+        ensures { MatchResult result (λ _. offers_of self.new ≡ offers_of self.old ++ (record { giver = giver; quantity = quantity; stands = true } ∷ [])) (λ _. (self.new ≡ self.old) × (128 ≤ length (offers_of self.old))) }
     {
-        has_all_places(&self.places);
-        if self.count > 127 {
-            return false;
+        if usize::from(self.count) >= self.places.len() {
+            return Err(Uncounted);
         }
-        self.places[self.count as usize] = Laid {
+        self.places[usize::from(self.count)] = Laid {
             giver,
             quantity,
             stands: true,
         };
         self.count += 1;
-        true
+        Ok(())
     }
 
     /// Lays another offer at a place.
     pub(crate) fn put(&mut self, place: u8, offer: &Laid)
         ensures { offers_of self.new ≡ slice_set (offers_of self.old) place (laid_of offer.now) }
     {
-        has_all_places(&self.places);
-        if place < 128 {
-            self.places[place as usize] = *offer;
-        }
+        write(&mut self.places, place, *offer);
     }
 
     /// No offer is left.

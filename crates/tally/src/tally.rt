@@ -21,18 +21,12 @@ pub struct Tally {
     offers: Offers,
 }
 
-/// Accepting an offer again changes nothing.
-fn each_offer_counts_once()
-    ensures { AnOfferCountsOnce }
-{}
-
 impl Tally {
     /// A tally to which nothing was fed.
     pub fn new() -> Tally
         ensures starts_empty { tally_of result ≡ empty }
         ensures an_offer_counts_once { AnOfferCountsOnce }
     {
-        each_offer_counts_once();
         Tally {
             numbers: Numbers::new(),
             offers: Offers::new(),
@@ -66,8 +60,8 @@ impl Tally {
                 usage,
                 ..
             } => self.post(*account, *receipts, *usage),
-            Call::Adjust { account, quantity } => self.count(*account, *quantity as i128),
-            Call::State { account, quantity } => self.count(*account, *quantity as i128),
+            Call::Adjust { account, quantity } => self.count(*account, i128::from(*quantity)),
+            Call::State { account, quantity } => self.count(*account, i128::from(*quantity)),
             Call::Offer {
                 giver,
                 quantity,
@@ -81,13 +75,12 @@ impl Tally {
     }
 
     /// Adds to the account's number.
+    // The bound of what a call moves, as in the clauses of `gas`.
     fn count(&mut self, account: u8, by: i128) -> Result<(), Uncounted>
         requires { unsigned_abs by ≤ most_moved }
         ensures { Counts self.old result self.new (counted (tally_of self.old) account by) }
     {
-        let Some(number) = self.numbers.grown(account, by) else {
-            return Err(Uncounted);
-        };
+        let number = self.numbers.grown(account, by)?;
         self.numbers.put(account, number);
         Ok(())
     }
@@ -107,11 +100,7 @@ impl Tally {
     fn offer(&mut self, giver: u8, quantity: u64) -> Result<(), Uncounted>
         ensures { Counts self.old result self.new (record { number = (tally_of self.old).number; offers = (tally_of self.old).offers ++ (record { giver = giver; quantity = quantity; stands = true } ∷ []) }) }
     {
-        if self.offers.lay(giver, quantity) {
-            Ok(())
-        } else {
-            Err(Uncounted)
-        }
+        self.offers.lay(giver, quantity)
     }
 
     fn close(&mut self) -> Result<(), Uncounted>

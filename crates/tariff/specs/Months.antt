@@ -1,5 +1,5 @@
 -- The calendar: months from January 2000 to December 2099.
-use Rattle.std.specs.Prelude.{◌≡◌, ℕ, ◌+◌, ◌-◌, ◌*◌, ◌/◌, ◌%◌, Bool, cond, ◌&&◌, List, [], ◌∷◌, ◌++◌, IfSome, Some, None, decimal, Option, ◌==◌, nat_le, slice_index}
+use Rattle.std.specs.Prelude.{◌≡◌, ℕ, ◌+◌, ◌-◌, ◌*◌, ◌/◌, ◌%◌, Bool, false, cond, ◌&&◌, List, [], ◌∷◌, ◌++◌, IfSome, Some, None, decimal, Option, ◌==◌, nat_le, slice_index}
 use Rattle.tariff.specs.declared.month.Month.{Month}
 
 -- the month that comes n months after January 2000
@@ -44,6 +44,14 @@ following m = cond (number_of m == 12) (named (year_of m + 1) 1) (named (year_of
 -- the month before: nothing comes before January 2000
 abbrev pub preceding : Month → Option Month
 preceding m = cond (number_of m == 1) (named (year_of m - 1) 12) (named (year_of m) (number_of m - 1))
+
+-- the month n comes next after m
+abbrev pub same_as : Option Month → Month → Bool
+same_as None n = false
+same_as (Some k) n = same_month k n
+
+abbrev pub follows : Month → Month → Bool
+follows m n = same_as (following m) n
 
 -- as it is printed: the year, a hyphen, and the number in two digits
 abbrev pub month_text : Month → List ℕ

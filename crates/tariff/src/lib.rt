@@ -7,6 +7,6 @@ mod money;
 mod month;
 
 pub use bill::{BillKind, Charge};
-pub use fault::{Fault, Layer, NO_ACCOUNT, Row};
+pub use fault::{Fault, Layer, NO_ACCOUNT, NoSuch, Row};
 pub use money::{Cents, billed_cents, exact_amount};
 pub use month::Month;

@@ -10,19 +10,14 @@ pub struct Cents {
     pub count: i128,
 }
 
-fn product(quantity: i64, price: u32) -> i128
-    ensures value { result ≡ exact quantity price }
-    ensures bound { unsigned_abs result ≤ 2 ^ 95 }
-{
-    quantity as i128 * price as i128
-}
-
+// The bound is a clause, here and where amounts and bills are made of it: `i128` has no invariant, and one of a public type would ask
+// more of whoever makes a value of it.
 /// What a signed quantity (Dth) comes to at a card price (millionths of a dollar for each Dth), in ten-thousandths of a cent.
 pub fn exact_amount(quantity: i64, price: u32) -> i128
     ensures value { result ≡ exact quantity price }
     ensures bound { unsigned_abs result ≤ 2 ^ 95 }
 {
-    product(quantity, price)
+    i128::from(quantity) * i128::from(price)
 }
 
 /// The nearest whole cent of an amount in ten-thousandths of a cent, a half going away from zero.
@@ -31,22 +26,18 @@ pub fn billed_cents(amount: i128) -> Cents
     ensures half_a_cent { Within 5000 (result.count *ℤ pos 10000) amount }
 {
     let cents = (amount.unsigned_abs() + 5000) / 10000;
-    if amount < 0 {
-        Cents {
-            count: -(cents as i128),
-        }
-    } else {
-        Cents {
-            count: cents as i128,
-        }
+    let cents = cents as i128;
+    Cents {
+        count: if amount < 0 { -cents } else { cents },
     }
 }
 
+// A word for a truth value, which has no `Display` of its own.
 /// A hyphen before what is paid to the agent.
-fn sign(count: &i128) -> &'static str
-    ensures { result.now ≡ sign_text count.now }
+fn sign(count: i128) -> &'static str
+    ensures { result.now ≡ sign_text count }
 {
-    if *count < 0 { "-" } else { "" }
+    if count < 0 { "-" } else { "" }
 }
 
 impl fmt::Display for Cents {
@@ -54,11 +45,10 @@ impl fmt::Display for Cents {
 
     /// In dollars, as `-3.77`.
     fn fmt<W: fmt::Write>(&self, f: &mut fmt::Formatter<W>) -> fmt::Result {
-        let sign = sign(&self.count);
+        let sign = sign(self.count);
         let cents = self.count.unsigned_abs();
         let dollars = cents / 100;
-        let tens = cents / 10 % 10;
-        let ones = cents % 10;
-        write!(f, "{sign}{dollars}.{tens}{ones}")
+        let rest = cents % 100;
+        write!(f, "{sign}{dollars}.{rest:02}")
     }
 }

@@ -1,6 +1,6 @@
 // Calendar months from January 2000 to December 2099.
 ghost use Rattle.std.specs.Prelude.{◌≡◌, ℕ, ◌+◌, ◌<◌, ◌≤◌, Some};
-ghost use Rattle.tariff.specs.Months.{since, named, year_of, number_of, same_month, days_in, following, preceding, ReadsBack, month_text};
+ghost use Rattle.tariff.specs.Months.{since, named, year_of, number_of, days_in, following, preceding, follows, ReadsBack, month_text};
 
 use std::fmt;
 
@@ -8,7 +8,7 @@ use std::fmt;
 const LENGTHS: [u8; 12] = [31, 28, 31, 30, 31, 30, 31, 31, 30, 31, 30, 31];
 
 /// A month, by the number of months since January 2000.
-#[derive(Clone, Copy)]
+#[derive(Clone, Copy, Debug, PartialEq, Eq, PartialOrd, Ord)]
 pub struct Month {
     index: u16,
 }
@@ -19,11 +19,11 @@ impl Month {
         ensures value { result ≡ named year number }
         ensures reads_back { ReadsBack year number result }
     {
-        if year < 2000 || year > 2099 || number < 1 || number > 12 {
+        if !(2000..=2099).contains(&year) || !(1..=12).contains(&number) {
             return None;
         }
         Some(Month {
-            index: (year - 2000) * 12 + (number as u16 - 1),
+            index: (year - 2000) * 12 + (u16::from(number) - 1),
         })
     }
 
@@ -41,13 +41,6 @@ impl Month {
         (self.index % 12) as u8 + 1
     }
 
-    /// Whether both are one month.
-    pub fn same_as(&self, other: Month) -> bool
-        ensures { result ≡ same_month self.now other }
-    {
-        self.index == other.index
-    }
-
     /// How many days the month has.
     pub fn days(&self) -> u8
         ensures value { result ≡ days_in self.now }
@@ -56,7 +49,7 @@ impl Month {
         if self.number() == 2 && self.year() % 4 == 0 {
             return 29;
         }
-        LENGTHS[(self.index % 12) as usize]
+        LENGTHS[usize::from(self.index % 12)]
     }
 
     /// The month after, or none after December 2099.
@@ -80,6 +73,13 @@ impl Month {
         }
         Month::new(self.year(), self.number() - 1)
     }
+
+    /// Whether another month comes next after this one.
+    pub fn is_followed_by(&self, other: Month) -> bool
+        ensures { result ≡ follows self.now other }
+    {
+        self.next() == Some(other)
+    }
 }
 
 impl fmt::Display for Month {
@@ -88,8 +88,6 @@ impl fmt::Display for Month {
     fn fmt<W: fmt::Write>(&self, f: &mut fmt::Formatter<W>) -> fmt::Result {
         let year = self.year();
         let number = self.number();
-        let tens = number / 10;
-        let ones = number % 10;
-        write!(f, "{year}-{tens}{ones}")
+        write!(f, "{year}-{number:02}")
     }
 }

@@ -9,10 +9,11 @@ use crate::card::Card;
 use crate::fixed::FixedCard;
 use crate::terms::Terms;
 use balancing::TierPrices;
-use tariff::{Fault, Layer, Month, NO_ACCOUNT, Row};
+use tariff::{Fault, Month, Row};
 
 const MOST_CARD_PRICE: u32 = 1_500_000_000;
 
+// Four fields, each by its name: an array of the four would name them in the same words and then search it.
 fn passes_limit(prices: &TierPrices) -> bool
     ensures { result ≡ past_limit prices.now }
 {
@@ -24,22 +25,13 @@ fn passes_limit(prices: &TierPrices) -> bool
 
 impl FixedCard {
     /// The card of a month with four cashout prices, in millionths of a dollar.
+    // Year and number apart: what names no month is refused here, as row 1 of the card.
     pub fn new(year: u16, number: u8, tiers: TierPrices) -> Result<FixedCard, Fault>
         ensures { answer (λ c. fixed_terms c.month c.tiers) result ≡ fixed_card year number tiers }
     {
-        let Some(month) = Month::new(year, number) else {
-            return Err(Fault {
-                row: Row::Field,
-                layer: Layer::Card,
-                account: NO_ACCOUNT,
-            });
-        };
+        let month = Month::new(year, number).ok_or(Fault::by_card(Row::Field))?;
         if passes_limit(&tiers) {
-            return Err(Fault {
-                row: Row::PastLimit,
-                layer: Layer::Card,
-                account: NO_ACCOUNT,
-            });
+            return Err(Fault::by_card(Row::PastLimit));
         }
         Ok(FixedCard { month, tiers })
     }

@@ -1,29 +1,31 @@
 // Makes an index card, and says what it means.
-ghost use Rattle.std.specs.Prelude.{◌≡◌, ◌+◌, ◌<◌, ◌≤◌, false};
+ghost use Rattle.std.specs.Prelude.{◌≡◌, false};
 ghost use Rattle.tariff.specs.Faults.{answer};
 ghost use Rattle.cards.specs.Index.{one_month, past_limits, no_supply, working_of, index_terms, index_card};
 ghost use Rattle.std.proofs.Common.{rules};
 
 use crate::card::Card;
 use crate::index::IndexCard;
-use crate::index::points::{highest_price, point};
+use crate::index::kept::Kept;
+use crate::index::points::{Doubles, highest_price};
 use crate::index::published::Published;
 use crate::index::weights::{tier_prices, weigh, whole_dollars};
 use crate::index::working::Working;
 use crate::terms::Terms;
-use tariff::{Fault, Layer, NO_ACCOUNT, Row};
+use tariff::{Fault, Row};
 
 impl Published {
     fn of_one_month(&self) -> bool
         ensures { result ≡ one_month self.now }
     {
         let month = self.citygate.month();
-        self.malin_a.month().same_as(month)
-            && self.malin_b.month().same_as(month)
-            && self.topock_a.month().same_as(month)
-            && self.topock_b.month().same_as(month)
+        self.malin_a.month() == month
+            && self.malin_b.month() == month
+            && self.topock_a.month() == month
+            && self.topock_b.month() == month
     }
 
+    // Two limits for two kinds of number: no one search goes over all four.
     fn passes_limits(&self) -> bool
         ensures { result ≡ past_limits self.now }
     {
@@ -39,17 +41,16 @@ impl Published {
         self.malin_supply == 0 && self.topock_supply == 0
     }
 
-    fn working(&self) -> Working
+    // It asks for what `new` has tested: a working that refused would tell part of the table of refusals in a second place.
+    fn working(&self) -> Kept
         requires limits { past_limits self.now ≡ false }
         requires supply { no_supply self.now ≡ false }
-        ensures value { result ≡ working_of self.now }
-        ensures weighted { (result.weighted_low ≤ 10000000) × (result.weighted_high ≤ 10000000) × (result.citygate_dollars ≤ 1000) }
-        ensures doubles { (result.malin.smallest ≤ 20000000) × (result.topock.smallest ≤ 20000000) × (result.malin.largest ≤ 20000000) × (result.topock.largest ≤ 20000000) }
+        ensures { result.working ≡ working_of self.now }
     {
-        let malin = point(&self.malin_a, &self.malin_b);
-        let topock = point(&self.topock_a, &self.topock_b);
+        let malin = Doubles::of(&self.malin_a, &self.malin_b).point();
+        let topock = Doubles::of(&self.topock_a, &self.topock_b).point();
         let citygate_high = highest_price(&self.citygate).max(self.citygate_index);
-        Working {
+        let working = Working {
             malin,
             topock,
             weighted_low: weigh(malin.low, self.malin_supply, topock.low, self.topock_supply),
@@ -61,7 +62,8 @@ impl Published {
             ),
             citygate_high,
             citygate_dollars: whole_dollars(citygate_high),
-        }
+        };
+        Kept { working }
     }
 }
 
@@ -71,28 +73,17 @@ impl IndexCard {
         ensures { answer (λ c. (c.terms, c.working)) result ≡ index_card published.now }
     {
         if !published.of_one_month() {
-            return Err(Fault {
-                row: Row::OtherMonth,
-                layer: Layer::Card,
-                account: NO_ACCOUNT,
-            });
+            return Err(Fault::by_card(Row::OtherMonth));
         }
         if published.passes_limits() {
-            return Err(Fault {
-                row: Row::PastLimit,
-                layer: Layer::Card,
-                account: NO_ACCOUNT,
-            });
+            return Err(Fault::by_card(Row::PastLimit));
         }
         if published.has_no_supply() {
-            return Err(Fault {
-                row: Row::NoSupply,
-                layer: Layer::Card,
-                account: NO_ACCOUNT,
-            });
+            return Err(Fault::by_card(Row::NoSupply));
         }
-        let working = published.working();
-        let tiers = tier_prices(published.bid_week, &working);
+        let kept = published.working();
+        let tiers = tier_prices(published.bid_week, &kept);
+        let working = kept.working;
         let noncompliance = 500_000 * working.citygate_dollars;
         let terms = Terms {
             month: published.citygate.month(),

@@ -1,41 +1,30 @@
 // Weighted lows and highs, Citygate's dollars, and the prices that follow.
-ghost use Rattle.std.specs.Prelude.{◌≡◌, ℕ, ◌+◌, ◌*◌, ◌/◌, ◌<◌, ◌≤◌};
+ghost use Rattle.std.specs.Prelude.{◌≡◌, ◌+◌, ◌*◌, ◌<◌, ◌≤◌};
 ghost use Rattle.cards.specs.Index.{nearest_up, weighted, dollars, tiers_of};
 ghost use Rattle.cards.specs.Limits.{TiersWithinLimits};
 
-use crate::index::working::Working;
+use crate::index::kept::Kept;
 use balancing::TierPrices;
 
-/// Stands for the fact in its contract: what a sum of ten prices and a supply amount come to.
-fn product_is_small(sum: u64, supply: u32)
-    requires { (sum ≤ 100000000) × (supply ≤ 100000000) }
-    ensures { sum * supply ≤ 100000000 * supply }
-{}
-
+// The bounds stand in the clauses: each is of another product, and no two functions pass on the same number.
 /// A sum of ten prices times a supply amount.
+#[tactic(auto, using(crate::proofs::Small::product_small))]
 fn share(sum: u64, supply: u32) -> u64
     requires { (sum ≤ 100000000) × (supply ≤ 100000000) }
     ensures value { result ≡ sum * supply }
     ensures bound { result ≤ 100000000 * supply }
 {
-    product_is_small(sum, supply);
-    sum * supply as u64
+    sum * u64::from(supply)
 }
 
-/// Stands for the fact in its contract: an average of prices passes no limit that they keep.
-fn average_is_small(whole: u64, parts: u64)
-    requires { (0 < parts) × (whole ≤ 10000000 * parts) }
-    ensures { nearest_up whole parts ≤ 10000000 }
-{}
-
 /// The whole number nearest to `whole / parts`, a half up.
+#[tactic(auto, using(crate::proofs::Small::average_small))]
 fn nearest(whole: u64, parts: u64) -> u64
     requires parts { (0 < parts) × (parts ≤ 2000000000) }
     requires whole { whole ≤ 10000000 * parts }
     ensures value { result ≡ nearest_up whole parts }
     ensures bound { result ≤ 10000000 }
 {
-    average_is_small(whole, parts);
     (2 * whole + parts) / (2 * parts)
 }
 
@@ -47,7 +36,10 @@ pub(crate) fn weigh(malin: u64, malin_supply: u32, topock: u64, topock_supply: u
     ensures bound { result ≤ 10000000 }
 {
     let whole = share(malin, malin_supply) + share(topock, topock_supply);
-    nearest(whole, 10 * (malin_supply as u64 + topock_supply as u64))
+    nearest(
+        whole,
+        10 * (u64::from(malin_supply) + u64::from(topock_supply)),
+    )
 }
 
 /// Whole dollars of a price, rounded up.
@@ -56,19 +48,18 @@ pub(crate) fn whole_dollars(price: u32) -> u32
     ensures value { result ≡ dollars price }
     ensures bound { result ≤ 1000 }
 {
-    (price + 9_999) / 10_000
+    price.div_ceil(10_000)
 }
 
 /// The four cashout prices.
-pub(crate) fn tier_prices(bid_week: u32, working: &Working) -> TierPrices
-    requires index { bid_week ≤ 10000000 }
-    requires weighted { (working.now.weighted_low ≤ 10000000) × (working.now.weighted_high ≤ 10000000) }
-    requires doubles { (working.now.malin.smallest ≤ 20000000) × (working.now.topock.smallest ≤ 20000000) × (working.now.malin.largest ≤ 20000000) × (working.now.topock.largest ≤ 20000000) }
-    ensures value { result ≡ tiers_of bid_week working.now }
+pub(crate) fn tier_prices(bid_week: u32, kept: &Kept) -> TierPrices
+    requires { bid_week ≤ 10000000 }
+    ensures value { result ≡ tiers_of bid_week kept.now.working }
     ensures limits { TiersWithinLimits result }
 {
-    let lower = (bid_week as u64).min(working.weighted_low);
-    let higher = (bid_week as u64).max(working.weighted_high);
+    let working = &kept.working;
+    let lower = u64::from(bid_week).min(working.weighted_low);
+    let higher = u64::from(bid_week).max(working.weighted_high);
     TierPrices {
         one_over: (75 * lower) as u32,
         one_under: (125 * higher) as u32,

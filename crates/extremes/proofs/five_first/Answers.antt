@@ -1,19 +1,29 @@
-use Rattle.std.proofs.Common.{◌≡◌, ◌≤◌, length, take, sum, refl, ap, ◌∙◌, arith}
-use Rattle.extremes.specs.Arranged.{sorted}
-use Rattle.extremes.proofs.Known.{five_facts}
+use Rattle.std.proofs.Common.{◌≡◌, ◌≤◌, length, take, sum, sym, ap, ◌∙◌, subst, arith}
+use Rattle.std.proofs.lemmas.List.{take_all}
+use Rattle.extremes.specs.Arranged.{Ascending, InOrder, sorted}
+use Rattle.extremes.proofs.Five.{ascending_take, sorted_ascends}
+use Rattle.extremes.proofs.Shuffles.{sorted_shuffles, five_bound}
+use Rattle.extremes.proofs.OneOrder.{one_order}
 use Rattle.extremes.proofs.five_first.Goals as goal
 
-pub loop-x-init : goal.loop-x-init
-loop-x-init g c = (omega arith, refl, refl, five_facts g.O.Order.upto g.met.O.Order.total g.met.O.Order.chain g.met.O.Order.same c.args.xs.now)
+pub join-count-requires-clause-ascending : goal.join-count-requires-clause-ascending
+join-count-requires-clause-ascending g c =
+    let u = g.O.Order.upto in
+    let so-far = take c.loop-x.x-index c.args.xs.now in
+    subst (Ascending u) (sym c.loop-x.invariant.2) (ascending_take u 5 (sorted u so-far) (sorted_ascends u g.met.O.Order.total so-far))
 
 pub returns : goal.returns
 returns g c =
+    let u = g.O.Order.upto in
+    let met = g.met.O.Order in
+    let xs = c.args.xs.now in
     let l = c.loop-x in
     let full : length l.held ≤ l.count = omega arith in
-    let five : l.held ≡ take 5 (sorted g.O.Order.upto c.args.xs.now) = l.invariant.3.2 l.x-index l.count l.held c.loop-x-test.false full l.invariant.2 in
+    let five : l.held ≡ take 5 (sorted u xs) = sym (take_all l.count l.held full) ∙ l.invariant.2 ∙ ap (λ ys. take 5 (sorted u ys)) (take_all l.x-index xs c.loop-x-test.false) in
+    let order : InOrder u xs (sorted u xs) = (sorted_shuffles u xs, sorted_ascends u met.total xs) in
     record {
       five = five;
-      order = l.invariant.3.3;
-      any_order = λ ys o. five ∙ l.invariant.3.4 ys o;
-      bound = λ m all. omega (arith, ap sum five, l.invariant.3.5 m all);
+      order = order;
+      any_order = λ ys o. five ∙ ap (take 5) (one_order u met.total met.chain met.same xs (sorted u xs) ys order o);
+      bound = λ m all. omega (arith, ap sum five, five_bound u xs m all);
     }

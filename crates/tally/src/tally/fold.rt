@@ -24,9 +24,9 @@ impl Tally {
         if member == agent {
             return Ok(());
         }
-        let Some(sum) = self.numbers.grown(agent, self.numbers.of(member) as i128) else {
-            return Err(Uncounted);
-        };
+        let sum = self
+            .numbers
+            .grown(agent, i128::from(self.numbers.of(member)))?;
         self.numbers.put(agent, sum);
         Ok(())
     }

@@ -36,12 +36,8 @@ impl Tally {
         if giver == taker {
             return Ok(());
         }
-        let Some(less) = self.numbers.grown(giver, -(quantity as i128)) else {
-            return Err(Uncounted);
-        };
-        let Some(more) = self.numbers.grown(taker, quantity as i128) else {
-            return Err(Uncounted);
-        };
+        let less = self.numbers.grown(giver, -i128::from(quantity))?;
+        let more = self.numbers.grown(taker, i128::from(quantity))?;
         self.numbers.put(giver, less);
         self.numbers.put(taker, more);
         Ok(())

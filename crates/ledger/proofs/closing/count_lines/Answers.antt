@@ -1,23 +1,19 @@
-use Rattle.std.proofs.Common.{◌≡◌, ◌+◌, length, get_or, drop, ap, arith, length-append}
-use Rattle.page.specs.Closing.{closing_lines, all_lines}
-use Rattle.page.specs.Pages.{blank}
-use Rattle.ledger.proofs.Lowest.{lines_more, lines_all}
+use Rattle.std.proofs.Common.{ℕ, ◌^◌, length, ◌∙◌, arith, rules, tests}
+use Rattle.std.proofs.lemmas.Iterator.{YieldsList-from_slice, YieldsList-from_map}
+use Rattle.std.proofs.lemmas.Iterator.Adapters.{fits_from_length, at_most_from_yields_List}
+use Rattle.std.proofs.lemmas.Iterator.Consumers.{sum_by_from_yields_List}
+use Rattle.page.specs.Closing.{closing_lines}
+use Rattle.page.specs.declared.page.Page.{Page}
+use Rattle.ledger.proofs.Lines.{all_counted}
 use Rattle.ledger.proofs.closing.count_lines.Goals as goal
 
-pub loop-page-preserved : goal.loop-page-preserved
-loop-page-preserved c =
-    let k = c.args.credits.now in
-    let xs = c.args.pages.now in
-    let i = c.loop-page.page-index in (
-      omega (arith, c.closing_line_count-lines.ensures.few, c.loop-page.invariant.0),
-      λ t.
-          let more = ap length (lines_more t k xs i (omega arith)) in
-          let both = length-append (closing_lines t k i (get_or xs i blank)) (all_lines t k (i + 1) (drop (i + 1) xs)) in
-          let here : c.closing_line_count-lines.result ≡ length (closing_lines t k i (get_or xs i blank)) = c.closing_line_count-lines.ensures.exact t i in
-          omega (arith, c.loop-page.invariant.1 t, more, both, here),
-    )
+pub sum-requires-clause-fits : goal.sum-requires-clause-fits
+sum-requires-clause-fits c =
+    fits_from_length _ _ 64 (2 ^ 64) (at_most_from_yields_List (YieldsList-from_slice c.args.pages.now cc) (omega arith)) c.map.ensures.closure (omega arith) (λ x r q k. search rules)
 
 pub returns : goal.returns
 returns c = λ t.
-    let none = ap length (lines_all t c.args.credits.now c.args.pages.now c.loop-page.page-index (omega arith)) in
-    omega (arith, c.loop-page.invariant.1 t, none)
+    let k = c.args.credits.now in
+    let lines : Page → ℕ = λ p. length (closing_lines t k 0 p) in
+    sum_by_from_yields_List lines _ c.map.result _ c.sum.ensures.ran (YieldsList-from_map _ lines (YieldsList-from_slice c.args.pages.now cc) c.map.ensures.closure (λ x r q f. search (rules, tests)))
+    ∙ all_counted t k 0 c.args.pages.now

@@ -1,11 +1,7 @@
 use Rattle.std.proofs.Common.{rules}
 use Rattle.std.proofs.lemmas.List.Edits.{map_over_more}
-use Rattle.std.proofs.lemmas.List.{take_all, drop_all}
 use Rattle.page.specs.Closing.{turned}
 use Rattle.ledger.proofs.closing.turn_pages.Goals as goal
 
-pub loop-i-preserved : goal.loop-i-preserved
-loop-i-preserved c = search (rules, map_over_more turned)
-
-pub returns : goal.returns
-returns c = search (rules, take_all, drop_all)
+pub loop-page-preserved : goal.loop-page-preserved
+loop-page-preserved c = search (rules, map_over_more turned)

@@ -1,4 +1,5 @@
 use Rattle.std.proofs.Common.{ℕ, pos, neg_ℤ, sym, refl, ap, ◌∙◌, subst, arith}
+use Rattle.std.proofs.lemmas.Result.{MatchResult-from_err}
 use Rattle.std.proofs.lemmas.Int.{ints}
 use Rattle.tally.specs.Limits.{Kept}
 use Rattle.tally.specs.Tallies.{added}
@@ -19,25 +20,25 @@ returns-then-giver-taker c =
       offers = offers_of c.args.self.now.offers;
     }
 
-pub returns-in_default : goal.returns-in_default
-returns-in_default c =
+pub returns-in_err-less : goal.returns-in_err-less
+returns-in_err-less c =
     let n = numbers_of c.args.self.now.numbers in
     let g = c.args.giver in
     let here = given_here g c.args.taker (pos c.args.quantity) n c.if-giver-taker.false in
-    (refl, λ os f. c.in_default.ensures (subst (Kept g) (here ∙ omega (arith, ints)) (f.numbers g)))
+    MatchResult-from_err _ _ _ c.from_residual.ensures.0 (λ _. (refl, λ os f. c.in_err-less.ensures (subst (Kept g) (here ∙ omega (arith, ints)) (f.numbers g))))
 
-pub returns-in_default-grown : goal.returns-in_default-grown
-returns-in_default-grown c =
+pub returns-in_err-more : goal.returns-in_err-more
+returns-in_err-more c =
     let n = numbers_of c.args.self.now.numbers in
     let k = c.args.taker in
     let here = taken_here c.args.giver k (pos c.args.quantity) n c.if-giver-taker.false in
-    (refl, λ os f. c.in_default-grown.ensures (subst (Kept k) (here ∙ omega (arith, ints)) (f.numbers k)))
+    MatchResult-from_err _ _ _ c.from_residual-in_err-more.ensures.0 (λ _. (refl, λ os f. c.in_err-more.ensures (subst (Kept k) (here ∙ omega (arith, ints)) (f.numbers k))))
 
 pub returns : goal.returns
 returns c =
     let n = numbers_of c.args.self.now.numbers in
-    let v = c.in-Some.ensures in
-    let w = c.in-Some-grown.ensures in
+    let v = c.in_ok-less.ensures in
+    let w = c.in_ok-more.ensures in
     λ i. record {
       number =
           (c.put-2.ensures
