@@ -1,5 +1,5 @@
 -- What the loops over a text rest on: its rest at each index, and the powers of ten.
-use Rattle.std.proofs.Common.{◌≡◌, ℕ, ◌+◌, ◌*◌, ◌^◌, ◌<◌, ◌≤◌, List, [], ◌∷◌, length, get_or, drop, pow-suc, add-one, lit<, ◌-◌, arith, mul-le-mul}
+use Rattle.std.proofs.Common.{◌≡◌, ℕ, ◌+◌, ◌*◌, ◌^◌, ◌<◌, ◌≤◌, List, [], ◌∷◌, length, get_or, drop, pow-suc, add-one, lit<}
 use native.Mathlib.Nat.{pow-le-pow_right}
 use Rattle.std.proofs.lemmas.List.{drop_more, drop_all}
 
@@ -16,12 +16,3 @@ Tens = ((k : ℕ) → 10 ^ (k + 1) ≡ 10 ^ k * 10) × ((k : ℕ) → k ≤ 12 �
 
 pub tens : Tens
 tens = (λ k. rw add-one (pow-suc 10 k), λ k h. pow-le-pow_right {n = 10} (lit< tt) h)
-
--- a number below 10 ^ 12 with at most six zeros behind it
-pub scaled_small : (n k p : ℕ) → n < 10 ^ 12 → k ≤ 6 → p ≡ 10 ^ k → n * p < 10 ^ 18
-scaled_small n k p h l e =
-    let power : 10 ^ k ≤ 10 ^ 6 = pow-le-pow_right {n = 10} (lit< tt) l in
-    let small : n ≤ 10 ^ 12 - 1 = omega arith in
-    let less : p ≤ 10 ^ 6 = rw e power in
-    let product : n * p ≤ (10 ^ 12 - 1) * 10 ^ 6 = mul-le-mul small less in
-    omega arith

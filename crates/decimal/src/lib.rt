@@ -53,6 +53,9 @@ fn read_number(digits: &[u8], most: usize) -> Option<u64>
     Some(n)
 }
 
+// A table, and no `pow`, which multiplies its way up anew for each amount.
+const POWERS_OF_TEN: [u64; 7] = [1, 10, 100, 1_000, 10_000, 100_000, 1_000_000];
+
 /// `n` with `k` zeros behind it.
 fn scaled(n: u64, k: usize) -> u64
     requires small { n < 10 ^ 12 }
@@ -60,7 +63,7 @@ fn scaled(n: u64, k: usize) -> u64
     ensures value { result ≡ n * 10 ^ k }
     ensures bound { result < 10 ^ 18 }
 {
-    n * 10_u64.pow(k as u32)
+    n * POWERS_OF_TEN[k]
 }
 
 /// An amount of at most so many decimals, in units of the last of them; none where the text is no such amount.

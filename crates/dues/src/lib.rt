@@ -2,7 +2,9 @@
 #![tactic(auto)]
 
 ghost use Rattle.std.specs.Prelude.{◌≡◌, ◌^◌, ◌≤◌, unsigned_abs};
+ghost use Rattle.balancing.specs.Cashouts.{tier_price};
 ghost use Rattle.tariff.specs.Bills.{amount_due};
+ghost use Rattle.tariff.specs.declared.bill.BillKind.TheVariants.{TierOne, TierTwo};
 ghost use Rattle.quote.specs.Quotes.{due};
 ghost use Rattle.dues.specs.Dues.{due_at_closing, all_due};
 ghost use Rattle.page.specs.Pages.{elected};
@@ -15,19 +17,28 @@ use tariff::BillKind;
 
 // The bounds stand in the clauses: each sum has another, and a number of 128 bits has no invariant to hold it.
 
+/// What a quantity in Tier I makes due, at the price of its side.
+fn tier_one_due(prices: &TierPrices, quantity: i32) -> i128
+    ensures value { result ≡ amount_due TierOne quantity (tier_price quantity prices.now.one_over prices.now.one_under) }
+    ensures bound { unsigned_abs result ≤ 2 ^ 95 }
+{
+    BillKind::TierOne.amount_due(i64::from(quantity), prices.tier_one_price(quantity))
+}
+
+/// What a quantity in Tier II makes due, at the price of its side.
+fn tier_two_due(prices: &TierPrices, quantity: i32) -> i128
+    ensures value { result ≡ amount_due TierTwo quantity (tier_price quantity prices.now.two_over prices.now.two_under) }
+    ensures bound { unsigned_abs result ≤ 2 ^ 95 }
+{
+    BillKind::TierTwo.amount_due(i64::from(quantity), prices.tier_two_price(quantity))
+}
+
 /// What both tiers make due.
 fn tiers_due(prices: &TierPrices, parts: &Parts) -> i128
     ensures value { result ≡ due prices.now parts.now }
     ensures bound { unsigned_abs result ≤ 2 ^ 96 }
 {
-    let Parts {
-        tier_one: one,
-        tier_two: two,
-        ..
-    } = *parts;
-    let one = BillKind::TierOne.amount_due(i64::from(one), prices.tier_one_price(one));
-    let two = BillKind::TierTwo.amount_due(i64::from(two), prices.tier_two_price(two));
-    one + two
+    tier_one_due(prices, parts.tier_one) + tier_two_due(prices, parts.tier_two)
 }
 
 /// What settling makes due: both tiers of the statement's imbalance, at the card's prices, in ten-thousandths of a cent.

@@ -2,8 +2,8 @@
 // the largest.
 #![tactic(auto)]
 
-ghost use Rattle.std.specs.Prelude.{◌≡◌, ℕ, ◌+◌, ◌*◌, ◌<◌, ◌≤◌, min, Bool, true, false, List, [], ◌∷◌, ◌++◌, length, take, if◌then◌else◌, Some, None, sum, MatchOption, nat_eq, nat_le, nat_lt, slice_index};
-ghost use Rattle.std.specs.List.{All};
+ghost use Rattle.std.specs.Prelude.{◌≡◌, ℕ, ◌+◌, ◌*◌, ◌<◌, ◌≤◌, min, Bool, true, false, List, [], ◌∷◌, ◌++◌, length, take, if◌then◌else◌, cond, Some, None, sum, MatchOption, nat_eq, nat_le, nat_lt, slice_index};
+ghost use Rattle.std.specs.List.{All, reduce};
 ghost use Rattle.extremes.specs.Arranged.{Ascending, Foremost, InOrder, insert, sorted};
 ghost use Rattle.std.proofs.Common.{rules};
 
@@ -68,13 +68,20 @@ impl Order for Falling {
     }
 }
 
+/// What a pass over the list finds, which takes each number that comes first so far.
+fn found_in<O: Order>(xs: &[u32]) -> Option<u32>
+    ensures { result ≡ reduce (λ b x. cond (O.Order.upto x b) x b) xs.now }
+{
+    xs.iter().copied().reduce(|found, x| if O::comes_first(x, found) { x } else { found })
+}
+
 /// The number that comes first, or `None` in an empty list.
 pub fn first<O: Order>(xs: &[u32]) -> Option<u32>
     ensures value { result ≡ (if nat_eq (length xs.now) 0 then None else Some (slice_index (sorted O.Order.upto xs.now) 0)) }
     ensures foremost { MatchOption result (length xs.now ≡ 0) (λ x. Foremost O.Order.upto xs.now x) }
     ensures bound { (m : ℕ) → All (λ x. x ≤ m) xs.now → MatchOption result (length xs.now ≡ 0) (λ x. x ≤ m) }
 {
-    xs.iter().copied().reduce(|found, x| if O::comes_first(x, found) { x } else { found })
+    found_in::<O>(xs)
 }
 
 /// The sum of the five numbers that come first, or `None` where there are fewer than five numbers.

@@ -12,6 +12,15 @@ impl Ledger {
         ensures answer { said result ≡ (folding self.old member agent).answer }
         ensures ledger_after { self.new ≡ (folding self.old member agent).ledger }
     {
+        self.fold_page(member, agent)
+    }
+
+    // Apart from `fold`, so that one line says who is folded into whom.
+    /// Folds the page of a member into that of an agent, if both are accounts.
+    fn fold_page(&mut self, member: u8, agent: u8) -> Result<(), Fault>
+        ensures answer { said result ≡ (folding self.old member agent).answer }
+        ensures ledger_after { self.new ≡ (folding self.old member agent).ledger }
+    {
         let member_place = place_in(&self.pages, member)?;
         let agent_place = place_in(&self.pages, agent)?;
         let agents = self.pages[agent_place];

@@ -14,16 +14,27 @@ pub struct Quote {
 }
 
 impl Quote {
-    /// What an option makes of a statement at four cashout prices.
-    pub fn new<O: BalancingOption>(statement: &Statement, option: &O, prices: &TierPrices) -> Quote
-        ensures value { result ≡ quoted (O.BalancingOption.rules option.now) statement.now prices.now }
-        ensures no_gas_is_lost { Whole statement.now result }
-        ensures half_a_cent_a_line { HalfACentALine prices.now result }
+    /// The split under the option, and its cashout.
+    fn split_and_cash_out<O: BalancingOption>(
+        statement: &Statement,
+        option: &O,
+        prices: &TierPrices,
+    ) -> Quote
+        ensures { result ≡ quoted (O.BalancingOption.rules option.now) statement.now prices.now }
     {
         let parts = option.split(statement);
         Quote {
             parts,
             cashout: prices.cash_out(&parts),
         }
+    }
+
+    /// What an option makes of a statement at four cashout prices.
+    pub fn new<O: BalancingOption>(statement: &Statement, option: &O, prices: &TierPrices) -> Quote
+        ensures value { result ≡ quoted (O.BalancingOption.rules option.now) statement.now prices.now }
+        ensures no_gas_is_lost { Whole statement.now result }
+        ensures half_a_cent_a_line { HalfACentALine prices.now result }
+    {
+        Quote::split_and_cash_out(statement, option, prices)
     }
 }

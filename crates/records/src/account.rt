@@ -71,7 +71,9 @@ impl Election {
     pub fn number(&self) -> u8
         ensures { result ≡ election_number self.now }
     {
-        *self as u8
+        // Its own words, so that an edit of one number can name this line or that of `Kind`.
+        let election = *self;
+        election as u8
     }
 }
 

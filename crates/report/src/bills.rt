@@ -2,8 +2,6 @@
 use crate::dollars::Dollars;
 use records::BillLine;
 use register::Register;
-use std::alloc::{AllocError, Global};
-use std::collections::BTreeMap;
 use std::io;
 use std::iter::Sum;
 use tariff::Cents;
@@ -31,14 +29,16 @@ impl<'a> Sum<&'a BillLine> for Total {
     }
 }
 
-/// The total of each account that has a line.
-fn totals(alloc: Global, lines: &[BillLine]) -> Result<BTreeMap<u8, Total>, AllocError> {
-    let mut totals = BTreeMap::new(alloc);
+/// The total of each account of a book.
+// An array, and no map: it has a place for each account, and wants no memory.
+fn totals(lines: &[BillLine]) -> [Total; 64] {
+    let mut totals = [Total::default(); 64];
     for line in lines {
-        let total: &mut Total = totals.entry(line.account)?.or_insert(Total::default());
-        *total = total.with(line);
+        if let Some(total) = totals.get_mut(usize::from(line.account)) {
+            *total = total.with(line);
+        }
     }
-    Ok(totals)
+    totals
 }
 
 fn print_line(rt: &HostRuntime, line: &BillLine) -> io::Result<()> {
@@ -69,9 +69,11 @@ pub fn print_bills(rt: &HostRuntime, bills: &Register<'_, BillLine>) -> io::Resu
     for line in lines {
         print_line(rt, line)?;
     }
-    for (account, total) in &totals(rt.alloc(), lines)? {
-        let whose = format!(in rt.alloc(); "account {account}")?;
-        print_total(rt, whose.as_str(), *total)?;
+    for (account, total) in (0..64u8).zip(&totals(lines)) {
+        if total.lines > 0 {
+            let whose = format!(in rt.alloc(); "account {account}")?;
+            print_total(rt, whose.as_str(), *total)?;
+        }
     }
     print_total(rt, "in all", lines.iter().sum::<Total>())
 }

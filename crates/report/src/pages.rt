@@ -4,18 +4,12 @@ use balancing::BalancingOption;
 use book::Book;
 use page::Page;
 use records::Election;
-use std::alloc::{AllocError, Global};
-use std::io;
+use std::{array, io};
 
-/// The open accounts with their pages.
-fn open_pages<A: BalancingOption, B: BalancingOption>(
-    alloc: Global,
-    book: &Book<A, B>,
-) -> Result<Vec<(u8, Page)>, AllocError> {
-    // Over the numbers of accounts, and no list: the book gives a page by its account.
-    (0..64u8)
-        .filter_map(|account| book.page(account).ok().map(|page| (account, page)))
-        .collect(alloc)
+/// The page of each account that is open.
+// An array, and no `Vec`: the tables of pages are printed whether there is memory to be had or not.
+fn open_pages<A: BalancingOption, B: BalancingOption>(book: &Book<A, B>) -> [Option<Page>; 64] {
+    array::from_fn(|account| book.page(account as u8).ok())
 }
 
 /// The mark of the option that a page elected.
@@ -77,18 +71,22 @@ pub fn print_pages<A: BalancingOption, B: BalancingOption>(
     book: &Book<A, B>,
     journal: &Journal,
 ) -> io::Result<()> {
-    let pages = open_pages(rt.alloc(), book)?;
+    let pages = open_pages(book);
     rt.println(
         "                              running month                                   statement\n  account  kind        O  day      usage   quantity  daily exc.  accum. exc.     usage   quantity  settled",
     )?;
-    for (account, page) in &pages {
-        print_months(rt, *account, mark::<A, B>(page), page)?;
+    for (account, page) in (0..64u8).zip(&pages) {
+        if let Some(page) = page {
+            print_months(rt, account, mark::<A, B>(page), page)?;
+        }
     }
     rt.println(
         "  account   running R statement S operating P carryover C   carried K  gas on page    the tally  difference",
     )?;
-    for (account, page) in &pages {
-        print_gas_held(rt, *account, page, journal.tally.number(*account))?;
+    for (account, page) in (0..64u8).zip(&pages) {
+        if let Some(page) = page {
+            print_gas_held(rt, account, page, journal.tally.number(account))?;
+        }
     }
     print_uncounted(rt, journal.uncounted)
 }

@@ -3,7 +3,6 @@ use crate::month_cards::{MonthCard, Problem, month_card};
 use crate::price_file::{Entry, HEADER, Misread, read_row};
 use crate::prices_report::{print_header, print_month};
 use crate::request::Layout;
-use std::alloc::{AllocError, AllocFailed, Global};
 use std::collections::BTreeMap;
 use std::process::ExitCode;
 use std::{fs, io};
@@ -27,69 +26,56 @@ enum Wrong<'a> {
     Month(Problem),
 }
 
-/// Why a price file gives no cards: all that is wrong with it, or a want of memory.
-#[derive(Drop)]
-enum Failure<'a> {
-    Wrong(Vec<Wrong<'a>>),
-    OutOfMemory(AllocError),
+/// Says what is wrong with a file.
+// At once, and no list of all that is wrong: a file of bad rows alone, however long, wants no more memory than its text.
+fn tell(rt: &HostRuntime, file: &str, why: &Wrong<'_>) -> io::Result<()> {
+    eprintln!(rt; "settle: {file}:{why}")
 }
 
-// By hand: `thiserror` would write both `From`, but asks for one text of each failure, and a list is told line by line.
-impl From<AllocError> for Failure<'_> {
-    fn from(why: AllocError) -> Self {
-        Failure::OutOfMemory(why)
-    }
-}
-
-impl<T: Drop> From<AllocFailed<T>> for Failure<'_> {
-    fn from(why: AllocFailed<T>) -> Self {
-        Failure::OutOfMemory(AllocError::from(why))
-    }
-}
-
-/// What was made of a file, if nothing is wrong with it.
-fn unless_wrong<T: Drop>(made: T, wrong: Vec<Wrong<'_>>) -> Result<T, Failure<'_>> {
-    if wrong.is_empty() {
-        Ok(made)
-    } else {
-        Err(Failure::Wrong(wrong))
-    }
-}
-
-/// Reads every row below the header; an empty one is passed over.
-fn read_rows(alloc: Global, text: &str) -> Result<Months, Failure<'_>> {
-    let mut months = BTreeMap::new(alloc);
-    let mut wrong = Vec::new(alloc);
-    if text.lines().next() != Some(HEADER) {
-        wrong.push(Wrong::Header)?;
-        return Err(Failure::Wrong(wrong));
-    }
+/// The rows below the header, by month; an empty one is passed over. Each bad one is told, and where there is one there are no months.
+fn read_rows(rt: &HostRuntime, file: &str, text: &str) -> io::Result<Option<Months>> {
+    let mut months = Some(BTreeMap::new(rt.alloc()));
     for (line, row) in (1usize..).zip(text.lines()).skip(1) {
         if row.is_empty() {
             continue;
         }
         match read_row(line, row) {
-            Ok(entry) => months
-                .entry(entry.month)?
-                .or_insert(Vec::new(alloc))
-                .push(entry)?,
-            Err(why) => wrong.push(Wrong::Row(line, why))?,
+            Ok(entry) => keep(rt, &mut months, entry)?,
+            Err(why) => {
+                months = None;
+                tell(rt, file, &Wrong::Row(line, why))?;
+            }
         }
     }
-    unless_wrong(months, wrong)
+    Ok(months)
 }
 
-/// Makes the card of each month that has rows.
-fn make_cards(alloc: Global, text: &str) -> Result<Cards, Failure<'_>> {
-    let mut cards = Vec::new(alloc);
-    let mut wrong = Vec::new(alloc);
-    for (month, entries) in &read_rows(alloc, text)? {
+/// Keeps a row with its month's, unless one before it is bad.
+fn keep(rt: &HostRuntime, months: &mut Option<Months>, entry: Entry) -> io::Result<()> {
+    if let Some(months) = months {
+        months
+            .entry(entry.month)?
+            .or_insert(Vec::new(rt.alloc()))
+            .push(entry)?;
+    }
+    Ok(())
+}
+
+/// The card of each month that has rows. Each month of which no card can be made is told, and where there is one there are no cards.
+fn make_cards(rt: &HostRuntime, file: &str, months: &Months) -> io::Result<Option<Cards>> {
+    let mut cards = Some(Vec::new(rt.alloc()));
+    for (month, entries) in months {
         match month_card(*month, entries.as_slice()) {
-            Ok(card) => cards.push((*month, card))?,
-            Err(why) => wrong.push(Wrong::Month(why))?,
+            Ok(card) => if let Some(cards) = &mut cards {
+                cards.push((*month, card))?;
+            },
+            Err(why) => {
+                cards = None;
+                tell(rt, file, &Wrong::Month(why))?;
+            }
         }
     }
-    unless_wrong(cards, wrong)
+    Ok(cards)
 }
 
 /// Prints the cards, and says of each refused one why; a refused card makes the answer a failure.
@@ -112,14 +98,6 @@ fn print_cards(
     Ok(ExitCode::SUCCESS)
 }
 
-/// Says all that is wrong with a file, a line each.
-fn tell(rt: &HostRuntime, file: &str, wrong: &[Wrong<'_>]) -> io::Result<ExitCode> {
-    for why in wrong {
-        eprintln!(rt; "settle: {file}:{why}")?;
-    }
-    Ok(ExitCode::FAILURE)
-}
-
 /// Reads a price file and prints each month's card with its working; nothing is printed where a row is bad. What is wrong is told, and
 /// then the answer is a failure.
 pub(crate) fn run_prices(rt: &HostRuntime, file: &str, layout: Layout) -> io::Result<ExitCode> {
@@ -131,9 +109,15 @@ pub(crate) fn run_prices(rt: &HostRuntime, file: &str, layout: Layout) -> io::Re
             return Ok(ExitCode::FAILURE);
         }
     };
-    match make_cards(rt.alloc(), text.as_str()) {
-        Ok(cards) => print_cards(rt, file, layout, &cards),
-        Err(Failure::Wrong(wrong)) => tell(rt, file, wrong.as_slice()),
-        Err(Failure::OutOfMemory(why)) => Err(io::Error::from(why)),
+    if text.lines().next() != Some(HEADER) {
+        tell(rt, file, &Wrong::Header)?;
+        return Ok(ExitCode::FAILURE);
     }
+    let Some(months) = read_rows(rt, file, text.as_str())? else {
+        return Ok(ExitCode::FAILURE);
+    };
+    let Some(cards) = make_cards(rt, file, &months)? else {
+        return Ok(ExitCode::FAILURE);
+    };
+    print_cards(rt, file, layout, &cards)
 }

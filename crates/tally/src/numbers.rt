@@ -1,5 +1,5 @@
 // The number of each account.
-ghost use Rattle.std.specs.Prelude.{◌≡◌, ◌≤◌, ◌+ℤ◌, unsigned_abs};
+ghost use Rattle.std.specs.Prelude.{◌≡◌, ◌≤◌, replicate, pos, ◌+ℤ◌, unsigned_abs};
 ghost use Rattle.std.specs.Result.{MatchResult};
 ghost use Rattle.tally.specs.Tallies.{empty};
 ghost use Rattle.tally.specs.Limits.{Kept, most_moved};
@@ -15,11 +15,18 @@ pub(crate) struct Numbers {
     held: [i64; 64],
 }
 
+/// What is held at first.
+fn zeros() -> [i64; 64]
+    ensures { result ≡ replicate 64 (pos 0) }
+{
+    [0; 64]
+}
+
 impl Numbers {
     pub(crate) fn new() -> Numbers
         ensures { numbers_of result ≡ empty.number }
     {
-        Numbers { held: [0; 64] }
+        Numbers { held: zeros() }
     }
 
     /// The account's number.

@@ -1,5 +1,5 @@
 -- The numbers of refusals, and what a call answers.
-use Rattle.std.specs.Prelude.{ℕ, List, [], ◌++◌, decimal, Some, None, Option, Ok, Err, Result, codes}
+use Rattle.std.specs.Prelude.{ℕ, cond, ◌==◌, List, [], ◌++◌, decimal, Some, None, Option, Ok, Err, Result, codes}
 use Rattle.tariff.specs.declared.fault.Row.{Row}
 use Rattle.tariff.specs.declared.fault.Row.TheVariants.{Field, NotOpen, UsedBefore, WrongKind, NoOffer, OtherMonth, WrongDay, WrongState, LargeCarryover, PastLimit, NoOfferPlace, NoRegisterPlace, BadHeader, BadRecord, NoSupply}
 use Rattle.tariff.specs.declared.fault.Layer.{Layer}
@@ -77,10 +77,10 @@ by_book r a = record { row = r; layer = Book; account = a }
 abbrev pub by_card : Row → Fault
 by_card r = record { row = r; layer = Card; account = None }
 
--- a refusal as it is printed: its number, the layer, the account if there is one, and the reason
+-- a refusal as it is printed: its number, the layer, the account if there is one, and the reason; 255 stands for no account here too
 abbrev pub account_text : Option ℕ → List ℕ
 account_text None = []
-account_text (Some a) = codes ", account " ++ decimal a
+account_text (Some a) = cond (a == 255) [] (codes ", account " ++ decimal a)
 
 abbrev pub fault_text : Fault → List ℕ
 fault_text f = codes "refusal " ++ (decimal (row_number f.row) ++ (codes " (" ++ (layer_text f.layer ++ (account_text f.account ++ (codes "): " ++ reason_text f.row)))))

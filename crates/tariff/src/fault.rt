@@ -50,7 +50,9 @@ impl Layer {
     pub fn number(&self) -> u8
         ensures { result ≡ layer_number self.now }
     {
-        *self as u8
+        // Its own words, so that an edit of one number can name this line or that of `Row`.
+        let layer = *self;
+        layer as u8
     }
 }
 
@@ -153,8 +155,10 @@ impl fmt::Display for Fault {
         let why = self.row;
         let layer = self.layer;
         match self.account {
-            None => write!(f, "refusal {number} ({layer}): {why}"),
-            Some(account) => write!(f, "refusal {number} ({layer}, account {account}): {why}"),
+            Some(account) if account != NO_ACCOUNT => {
+                write!(f, "refusal {number} ({layer}, account {account}): {why}")
+            }
+            _ => write!(f, "refusal {number} ({layer}): {why}"),
         }
     }
 }

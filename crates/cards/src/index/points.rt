@@ -18,6 +18,15 @@ fn double(a: &PriceSeries, b: &PriceSeries, day: u8) -> u32
     a.latest_price(day) + b.latest_price(day)
 }
 
+/// How many doubles a month has: one for each day, published or carried on.
+fn count_days(series: &PriceSeries) -> usize
+    ensures value { result ≡ days_of series.now }
+    ensures bound { (28 ≤ result) × (result ≤ 31) }
+{
+    // A cast: with `usize::from` the bounds stayed open.
+    series.days() as usize
+}
+
 /// The doubles of a month's days at a point, from day 1 on.
 // An array with a count, and no `Vec`: nothing below the reports allocates, so that no call fails for want of memory.
 #[derive(Clone, Copy)]
@@ -37,8 +46,7 @@ impl Doubles {
     {
         Doubles {
             places: array::from_fn(|i| double(a, b, i as u8 + 1)),
-            // A cast: with `usize::from` the bounds stayed open.
-            days: a.days() as usize,
+            days: count_days(a),
         }
     }
 

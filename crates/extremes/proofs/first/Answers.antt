@@ -1,5 +1,4 @@
-use Rattle.std.proofs.Common.{◌≡◌, cond, ◌∙◌, rules}
-use Rattle.std.specs.List.{reduce}
+use Rattle.std.proofs.Common.{◌∙◌}
 use Rattle.extremes.proofs.Lead.{found_foremost, found_is, found_bound}
 use Rattle.extremes.proofs.first.Goals as goal
 
@@ -8,7 +7,7 @@ returns g c =
     let u = g.O.Order.upto in
     let met = g.met.O.Order in
     let xs = c.args.xs.now in
-    let is : c.reduce.result ≡ reduce (λ b x. cond (u x b) x b) xs = search rules in
+    let is = c.found_in.ensures in
     record {
       value = is ∙ found_is u met.total met.chain met.same xs;
       foremost = rw is (found_foremost u met.total met.chain xs);

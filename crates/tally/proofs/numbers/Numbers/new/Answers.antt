@@ -2,4 +2,4 @@ use Rattle.tally.proofs.Places.{none_held}
 use Rattle.tally.proofs.numbers.Numbers.new.Goals as goal
 
 pub returns : goal.returns
-returns c = λ i a. none_held 64 a i
+returns c = rw c.zeros.ensures (λ i a. none_held 64 a i)

@@ -18,5 +18,5 @@ returns c =
     let q = daily c.args.b.now in
     let f : ℕ → ℕ = λ k. p (k + 1) + q (k + 1) in
     let all : c.from_fn.result ≡ map f (range_with_len 0 31) = given c.from_fn.ensures.items f (λ i y r call. search rules) in
-    let days : c.days.result ≤ 31 = c.days.ensures.bound.1 in
-    ap (take c.days.result) all ∙ take-map-range_with_len f 0 31 c.days.result days ∙ doubled_is p q c.days.result ∙ ap (doubled p q) c.days.ensures.value
+    let days : c.count_days.result ≤ 31 = c.count_days.ensures.bound.1 in
+    ap (take c.count_days.result) all ∙ take-map-range_with_len f 0 31 c.count_days.result days ∙ doubled_is p q c.count_days.result ∙ ap (doubled p q) c.count_days.ensures.value

@@ -1,5 +1,5 @@
 use Rattle.ledger.proofs.Folds.{fold_done, fold_refused}
-use Rattle.ledger.proofs.ledger.Ledger.fold.Goals as goal
+use Rattle.ledger.proofs.ledger.Ledger.fold_page.Goals as goal
 
 pub returns-in_err-joined : goal.returns-in_err-joined
 returns-in_err-joined c =
